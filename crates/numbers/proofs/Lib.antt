@@ -1,1 +1,3 @@
+pub mod Bytes
 pub mod Halves
+pub mod Stores

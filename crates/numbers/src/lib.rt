@@ -2,7 +2,7 @@
 ghost use mathlib.Core.Path.{_≡_};
 ghost use Prim.Native.Nat.{_+_, _≤_, _<_};
 ghost use lib.ListN.{length};
-ghost use Rattle.numbers.specs.Numbers.{number};
+ghost use Rattle.numbers.specs.Numbers.{number, bytes};
 
 fn byte16(x: u8) -> u16
     ensures { λ r. ⌜ (r ≡ x) × (r < 256) ⌝ }
@@ -44,4 +44,15 @@ pub fn eight(s: &[u8], at: usize) -> u64
     ensures { λ r. ⌜ r ≡ number 8 (now (s .entry)) at ⌝ }
 {
     half64(four(s, at)) + 4294967296 * half64(four(s, at + 4))
+}
+
+// A number into four bytes.
+pub fn put_four(out: &mut [u8], x: u32)
+    requires { ⌜ length (now out) ≡ 4 ⌝ }
+    ensures { λ _. ⌜ now (out .exit) ≡ bytes 4 x ⌝ }
+{
+    out[0] = (x % 256) as u8;
+    out[1] = (x / 256 % 256) as u8;
+    out[2] = (x / 256 / 256 % 256) as u8;
+    out[3] = (x / 256 / 256 / 256 % 256) as u8;
 }

@@ -1,0 +1,6 @@
+pub mod Block
+pub mod Trips
+pub mod Lookup
+pub mod Small
+pub mod Main
+pub mod Writes
