@@ -3,5 +3,7 @@ pub mod Rules
 pub mod Paths
 pub mod Uses
 pub mod Wires
+pub mod Flat
 pub mod Proofs
 pub mod Demand3
+pub mod Listing

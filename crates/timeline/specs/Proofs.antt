@@ -7,3 +7,6 @@ pub mod Offered
 pub mod OneEnd
 pub mod Follow
 pub mod Carried
+pub mod Joins
+pub mod Leaves
+pub mod Rows
