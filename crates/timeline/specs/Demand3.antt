@@ -6,7 +6,8 @@ use mathlib.Core.List.{List, [], _∷_}
 use mathlib.Core.Logic.{_⊎_}
 use lib.ListN.{length}
 use native.Mathlib.Omega.{arith}
-use Rattle.timeline.specs.Design.{Design, Source, own, leaf, built, class, delay, input-count, output-count, invocation-count, input, output, connection, takes}
+use Rattle.timeline.specs.Design.{Design, Source, own, leaf, built, class, delay, input-count, output-count, invocation-count, input, output, connection}
+use Rattle.timeline.specs.Design.{takes}
 use Rattle.timeline.specs.Rules.{Holds, Lawful}
 use Rattle.timeline.specs.Uses.{Spaced, reach, Path-of, unit, after, lasts, Found}
 use Rattle.timeline.specs.Wires.{Pin, pin, Carries}

@@ -6,9 +6,12 @@ use mathlib.Core.Bool.{Bool}
 use lib.Dec.{T}
 use lib.ListN.{length}
 use native.Mathlib.Decide.{ℕ-discrete, decLe, decLt}
-use Rattle.timeline.specs.Design.{Design, Port, Source, own, output-of, constant, Class, leaf, built, no-port, no-call, no-component, component, class, delay}
-use Rattle.timeline.specs.Design.{input-count, output-count, instance-count, invocation-count, argument-count, connection-count, input, output, made-of, call, instance, invoked, offset, argument, connection, takes, gives}
-use Rattle.timeline.specs.Rules.{Port-range, Source-range, Contains, Ranges, Whole, Counts, There, References, Wide, Widths, Intervals, Spacing, Span, Ready, Reading, Rules, Lawful}
+use Rattle.timeline.specs.Design.{Design, Port, Source, own, output-of, constant, Class, leaf, built, no-port, no-call, no-component, component, class}
+use Rattle.timeline.specs.Design.{delay}
+use Rattle.timeline.specs.Design.{input-count, output-count, instance-count, invocation-count, argument-count, connection-count, input, output, made-of}
+use Rattle.timeline.specs.Design.{call, instance, invoked, offset, argument, connection, takes, gives}
+use Rattle.timeline.specs.Rules.{Port-range, Source-range, Contains, Ranges, Whole, Counts, There, References, Wide, Widths, Intervals, Spacing, Span}
+use Rattle.timeline.specs.Rules.{Ready, Reading, Rules, Lawful}
 use Rattle.timeline.specs.Decide.{decided, decided-holds, dec-by, dec-if, dec-and, dec-or, dec-differ, dec-class, dec-below}
 
 unfoldable pub dec-port-range : (p : Port) → Dec (Port-range p)

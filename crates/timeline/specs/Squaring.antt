@@ -7,7 +7,8 @@ use mathlib.Core.Logic.{⊎-elim}
 use lib.Dec.{lit<, lit≤}
 use lib.ListN.{length}
 use native.Mathlib.Omega.{arith}
-use Rattle.timeline.specs.Design.{Design, Component, Port, own, output-of, leaf, built, no-port, no-call, no-component, component, class, delay, input-count, output-count, instance-count, invocation-count, input, output}
+use Rattle.timeline.specs.Design.{Design, Component, Port, own, output-of, leaf, built, no-port, no-call, no-component, component, class, delay}
+use Rattle.timeline.specs.Design.{input-count, output-count, instance-count, invocation-count, input, output}
 use Rattle.timeline.specs.Design.{made-of, call, instance, invoked, offset, argument, connection, takes, gives}
 use Rattle.timeline.specs.Rules.{Holds, Lawful}
 use Rattle.timeline.specs.Uses.{Spaced, at-output, here-output, up}

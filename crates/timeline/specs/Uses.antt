@@ -3,7 +3,8 @@
 use Prim.Native.Nat.{ℕ, _+_, _≤_, _<_}
 use mathlib.Core.Path.{_≡_}
 use mathlib.Core.List.{List, [], _∷_}
-use Rattle.timeline.specs.Design.{Design, Port, Source, own, output-of, constant, Class, leaf, built, class, delay, input-count, output-count, input, output, instance, offset, argument, connection, takes, gives}
+use Rattle.timeline.specs.Design.{Design, Port, Source, own, output-of, constant, Class, leaf, built, class, delay, input-count, output-count, input}
+use Rattle.timeline.specs.Design.{output, instance, offset, argument, connection, takes, gives}
 use Rattle.timeline.specs.Rules.{Holds}
 use Rattle.timeline.specs.Paths.{by-invocations, along, Path-on}
 

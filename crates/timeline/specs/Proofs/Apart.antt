@@ -35,8 +35,8 @@ starts-clear : (d : ℕ) (S : ℕ → Type 0) → Spaced d S → (t t′ : ℕ) 
 starts-clear d S h t t′ s s′ = go (decLt t t′) (decLt t′ t)
   where
     go : Dec (t < t′) → Dec (t′ < t) → (t ≡ t′) ⊎ Clear t d t′ d
-    go (yes l) m = inr (inl (h .spaced t t′ s s′ l))
-    go (no n) (yes l) = inr (inr (h .spaced t′ t s′ s l))
+    go (yes l) m = inr (inl (omega (arith, h .spaced t t′ s s′ l)))
+    go (no n) (yes l) = inr (inr (omega (arith, h .spaced t′ t s′ s l)))
     go (no n) (no m) = inl (omega arith)
 
 module _ {D : Design} {top : ℕ} (h : Placed D top) where

@@ -5,9 +5,11 @@ use Prim.Native.Nat.{ℕ, _+_}
 use mathlib.Core.Path.{_≡_, refl, sym, ap, _∙_}
 use mathlib.Core.List.{List, [], _∷_}
 use native.Mathlib.Omega.{arith}
-use Rattle.timeline.specs.Design.{Design, Source, own, output-of, constant, built, class, input-count, invocation-count, input, output, invoked, argument, connection, gives}
+use Rattle.timeline.specs.Design.{Design, Source, own, output-of, constant, built, class, input-count, invocation-count, input, output, invoked, argument}
+use Rattle.timeline.specs.Design.{connection, gives}
 use Rattle.timeline.specs.Rules.{Holds}
-use Rattle.timeline.specs.Uses.{End, at-constant, at-input, at-output, reach, Path-of, unit, after, From, here-constant, here-input, here-output, up, down}
+use Rattle.timeline.specs.Uses.{End, at-constant, at-input, at-output, reach, Path-of, unit, after, From, here-constant, here-input, here-output, up}
+use Rattle.timeline.specs.Uses.{down}
 use Rattle.timeline.specs.Wires.{Pin, component-of, pin, Carries, by-constant, by-top, by-leaf, by-connection, by-argument}
 use Rattle.timeline.specs.Proofs.Takes.{gives-built}
 use Rattle.timeline.specs.Proofs.Down.{Placed, Started, unit-component}
@@ -41,7 +43,7 @@ module _ {D : Design} {top : ℕ} {S : ℕ → Type 0} (g : Started D top S) (t 
   carried here-input w o = by-top
   carried (here-output {p = p} {j = j} {o = k} c) w o =
       rw (← unit-component D top p) (by-leaf {u = unit D top p} {j = j} {o = k} (rw (unit-component D top p) c))
-  carried (up {p = p} {j = j} {i = i} f) w o = by-argument t j p s w refl (o .1) (carried f (w .1) (step-up (g .placed) t x p j i w o))
+  carried (up {p = p} {j = j} {i = i} f) w o = by-argument {i = i} t j p s w refl (omega arith) (carried f (w .1) (step-up (g .placed) t x p j i w o))
   carried (down {p = p} {j = j} {o = k} {e = e} c f) w o =
       let a = carried f (o .1, w) (step-down (g .placed) t x p j k w c o) in
       by-connection {u = unit D top p} {j = j} {o = k} {w = pin D top e} (rw (unit-component D top p) c) (rw (unit-component D top p) a)
@@ -65,7 +67,7 @@ module _ {D : Design} {top : ℕ} {S : ℕ → Type 0} (g : Started D top S) (t 
   nothing-else [] r′ e (by-argument t′ j′ p′ s′ w′ a′ h′ m) a q w o f = cc
   nothing-else (j ∷ p) r′ e (by-argument {u = u} {i = i} t′ j′ p′ s′ w′ a′ h′ m) a q w o f =
       let o′ : Offers D top t x (j ∷ p) (own i) = rw (← q) at o in
-      let same = input-once g t t′ (j ∷ p) (j′ ∷ p′) x s s′ w w′ (sym a ∙ a′) i (o′ .0) (o′ .1) h′ in
+      let same = input-once g t t′ (j ∷ p) (j′ ∷ p′) x s s′ w w′ (sym a ∙ a′) i (o′ .0) (o′ .1) (omega arith) in
       let b = same .1 in
       let y : u ≡ unit D top p = cc in
       let z : argument D (reach D top p′) j′ i ≡ argument D (reach D top p) j i = cc in

@@ -62,7 +62,7 @@ module _ {D : Design} {top : ℕ} (h : Placed D top) where
   instances-down =
       record {
         there = h .there;
-        lower = λ c l n m. let r = (h .lawful .rules c l) .references .lower n m in omega arith;
+        lower = λ c l n m. let r = (h .lawful .rules c l) .references .lower n (omega arith) in omega arith;
         bare = λ c l e. (h .lawful .whole c l) .leaf-instances e;
       }
 

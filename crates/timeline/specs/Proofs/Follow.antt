@@ -6,9 +6,11 @@ use mathlib.Core.Path.{_≡_, refl}
 use mathlib.Core.List.{List, [], _∷_}
 use lib.ListN.{length}
 use native.Mathlib.Omega.{arith}
-use Rattle.timeline.specs.Design.{Design, Source, own, output-of, constant, Class, leaf, built, class, input-count, output-count, invocation-count, input, output, argument, connection, gives}
+use Rattle.timeline.specs.Design.{Design, Source, own, output-of, constant, Class, leaf, built, class, input-count, output-count, invocation-count, input}
+use Rattle.timeline.specs.Design.{output, argument, connection, gives}
 use Rattle.timeline.specs.Rules.{Holds}
-use Rattle.timeline.specs.Uses.{End, at-constant, at-input, at-output, reach, Path-of, after, From, here-constant, here-input, here-output, up, down, Promised, Found}
+use Rattle.timeline.specs.Uses.{End, at-constant, at-input, at-output, reach, Path-of, after, From, here-constant, here-input, here-output, up, down}
+use Rattle.timeline.specs.Uses.{Promised, Found}
 use Rattle.timeline.specs.Proofs.Takes.{gives-built}
 use Rattle.timeline.specs.Proofs.Down.{Started, path-lower, invocations-down, use-there}
 use Rattle.timeline.specs.Proofs.Once.{input-once, output-once}

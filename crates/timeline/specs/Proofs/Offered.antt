@@ -4,7 +4,8 @@ use Prim.Native.Nat.{ℕ, _+_, _≤_, _<_}
 use mathlib.Core.Path.{_≡_}
 use mathlib.Core.List.{List, [], _∷_}
 use native.Mathlib.Omega.{arith}
-use Rattle.timeline.specs.Design.{Design, Port, Source, own, output-of, constant, built, class, input-count, output-count, invocation-count, argument-count, connection-count, input, output, invoked, offset, argument, connection, gives}
+use Rattle.timeline.specs.Design.{Design, Port, Source, own, output-of, constant, built, class, input-count, output-count, invocation-count}
+use Rattle.timeline.specs.Design.{argument-count, connection-count, input, output, invoked, offset, argument, connection, gives}
 use Rattle.timeline.specs.Rules.{Holds, There, Ready}
 use Rattle.timeline.specs.Uses.{reach, Path-of, after}
 use Rattle.timeline.specs.Proofs.Down.{Placed, use-whole, use-rules}

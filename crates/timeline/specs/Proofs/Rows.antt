@@ -11,7 +11,8 @@ use Rattle.timeline.specs.Design.{Design, Class, leaf, built, class, inv
 use Rattle.timeline.specs.Rules.{Lawful}
 use Rattle.timeline.specs.Paths.{by-invocations, by-instances}
 use Rattle.timeline.specs.Uses.{reach, Path-of, unit, after}
-use Rattle.timeline.specs.Flat.{by-class, sum-below, join-below, leaf-count, count-before, leaves-to, leaves, Leaf-path, place, Row, row-count, unit-count, units-before, rows-to, rows-from, rows, uses, unit-number, row-from, row-of}
+use Rattle.timeline.specs.Flat.{by-class, sum-below, join-below, leaf-count, count-before, leaves-to, leaves, Leaf-path, place, Row, row-count}
+use Rattle.timeline.specs.Flat.{unit-count, units-before, rows-to, rows-from, rows, uses, unit-number, row-from, row-of}
 use Rattle.timeline.specs.Proofs.Down.{Placed, instances-down, invocations-down, path-lower, use-ranges, unit-component, unit-path}
 use Rattle.timeline.specs.Proofs.Joins.{by-class-same, join-same, map-join, getD-map-below}
 use Rattle.timeline.specs.Proofs.Leaves.{length-leaves, leaves-depth, count-leaf, count-built, in-order}
@@ -35,13 +36,9 @@ module _ (D : Design) (top t u : ℕ) where
   rows-below zero p = refl
   rows-below (suc f) p =
       by-class-map (row-from D top t u) (class D (reach D top p)) p _ _
-      (join-same (invocation-count D (reach D top p)) _ _ (λ j l. next j ∙ rows-below f (j ∷ p)) ∙ sym (map-join (row-from D top t u) (invocation-count D (reach D top p)) (λ j. leaves-to D (by-invocations D) f (reach D top (j ∷ p)) (j ∷ p))))
-    where
-      next : (j : ℕ) → rows-to D f (reach D top (j ∷ p)) (t + after D top p + offset D (reach D top p) j) (u + unit-number D top (unit D top p) + units-before D (reach D top p) j)
-          ≡ rows-to D f (reach D top (j ∷ p)) (t + after D top (j ∷ p)) (u + unit-number D top (unit D top (j ∷ p)))
-      next j =
-          let n = number-next p j in
-          ap₂ (rows-to D f (reach D top (j ∷ p))) (omega arith) (omega arith)
+      (join-same (invocation-count D (reach D top p)) _ _
+      (λ j l. let n = number-next p j in ap₂ (rows-to D f (reach D top (j ∷ p))) (omega arith) (omega arith) ∙ rows-below f (j ∷ p))
+      ∙ sym (map-join (row-from D top t u) (invocation-count D (reach D top p)) (λ j. leaves-to D (by-invocations D) f (reach D top (j ∷ p)) (j ∷ p))))
 
   rows-uses-to : (f : ℕ) → rows-to D f top t u ≡ map (row-from D top t u) (leaves-to D (by-invocations D) f top [])
   rows-uses-to f = rw (add-zero t, add-zero u) at (rows-below f [])
