@@ -6,12 +6,11 @@ use mathlib.Core.List.{List, [], _∷_}
 use mathlib.Core.Logic.{_⊎_}
 use lib.ListN.{length}
 use native.Mathlib.Omega.{arith}
-use Rattle.timeline.specs.Design.{Design, Source, own, leaf, built, class, delay, input-count, output-count, invocation-count, input, output, connection}
-use Rattle.timeline.specs.Design.{takes}
+use Rattle.timeline.specs.Design.{Design, Source, own, leaf, built, class, delay, input-count, output-count, input, output, connection, takes}
 use Rattle.timeline.specs.Rules.{Holds, Lawful}
 use Rattle.timeline.specs.Uses.{Spaced, reach, Path-of, unit, after, lasts, Found}
 use Rattle.timeline.specs.Wires.{Pin, pin, Carries}
-use Rattle.timeline.specs.Proofs.Down.{Placed, Started}
+use Rattle.timeline.specs.Proofs.Down.{Started}
 use Rattle.timeline.specs.Proofs.Apart.{not-again}
 use Rattle.timeline.specs.Proofs.Once.{input-once}
 use Rattle.timeline.specs.Proofs.Offered.{connection-offered}
@@ -67,7 +66,8 @@ own-delay-is D top [] = refl
 own-delay-is D top (j ∷ p) = refl
 
 -- What is offered is read.
-offered-read : {D : Design} {top : ℕ} {S : ℕ → Type 0} → Started D top S → (t : ℕ) → S t → (p : List ℕ) (r : Source) (x : ℕ) → Path-of D top p → Offers D top t x p r → Read D top S t p r x
+offered-read : {D : Design} {top : ℕ} {S : ℕ → Type 0} → Started D top S → (t : ℕ) → S t
+    → (p : List ℕ) (r : Source) (x : ℕ) → Path-of D top p → Offers D top t x p r → Read D top S t p r x
 offered-read {D} {top} {S} g t s p r x w o =
     let f : Found D top S t p r x = offered-found g t s p w r x o in
     record {

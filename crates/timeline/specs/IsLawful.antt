@@ -1,18 +1,18 @@
 -- Whether a design is lawful can be told by computing.
 -- Assumes nothing.
 use Prim.Native.Nat.{ℕ, _+_, _^_, _<_}
-use mathlib.Core.Path.{_≡_}
 use mathlib.Core.Bool.{Bool}
+use mathlib.Core.Logic.{_↔_}
 use lib.Dec.{T}
 use lib.ListN.{length}
 use native.Mathlib.Decide.{ℕ-discrete, decLe, decLt}
-use Rattle.timeline.specs.Design.{Design, Port, Source, own, output-of, constant, Class, leaf, built, no-port, no-call, no-component, component, class}
+use Rattle.timeline.specs.Design.{Design, Port, Source, own, output-of, constant, leaf, built, no-port, no-call, no-component, component, class}
 use Rattle.timeline.specs.Design.{delay}
 use Rattle.timeline.specs.Design.{input-count, output-count, instance-count, invocation-count, argument-count, connection-count, input, output, made-of}
 use Rattle.timeline.specs.Design.{call, instance, invoked, offset, argument, connection, takes, gives}
 use Rattle.timeline.specs.Rules.{Port-range, Source-range, Contains, Ranges, Whole, Counts, There, References, Wide, Widths, Intervals, Spacing, Span}
 use Rattle.timeline.specs.Rules.{Ready, Reading, Rules, Lawful}
-use Rattle.timeline.specs.Decide.{decided, decided-holds, dec-by, dec-if, dec-and, dec-or, dec-differ, dec-class, dec-below}
+use Rattle.timeline.specs.Decide.{decided, decided-holds, holds-decided, dec-by, dec-if, dec-and, dec-or, dec-differ, dec-class, dec-below}
 
 unfoldable pub dec-port-range : (p : Port) → Dec (Port-range p)
 dec-port-range p =
@@ -26,7 +26,8 @@ dec-source-range (constant v) = decLt v (2 ^ 64)
 
 unfoldable pub dec-contains : (p : Port) (a : ℕ) (q : Port) (b : ℕ) → Dec (Contains p a q b)
 dec-contains p a q b =
-    dec-by (λ h. record { from = h .0; upto = h .1 }) (λ r. (r .from, r .upto)) (dec-and (decLe (a + p .start) (b + q .start)) (decLe (b + q .end) (a + p .end)))
+    dec-by (λ h. record { from = h .0; upto = h .1 }) (λ r. (r .from, r .upto))
+    (dec-and (decLe (a + p .start) (b + q .start)) (decLe (b + q .end) (a + p .end)))
 
 module _ (D : Design) (c : ℕ) where
   -- A fact about each invocation, about each of its arguments, and about each connection.
@@ -53,7 +54,8 @@ module _ (D : Design) (c : ℕ) where
         argument-range = h .1 .1 .1 .1 .1 .1 .0;
         connection-range = h .1 .1 .1 .1 .1 .1 .1;
       })
-      (λ r. (r .delay-some, (r .delay-most, (r .input-range, (r .output-range, (r .instance-range, (r .invocation-range, (r .argument-range, r .connection-range))))))))
+      (λ r.
+      (r .delay-some, (r .delay-most, (r .input-range, (r .output-range, (r .instance-range, (r .invocation-range, (r .argument-range, r .connection-range))))))))
       (dec-and (decLe 1 (delay D c)) (dec-and (decLe (delay D c) 1024)
       (dec-and (dec-below (input-count D c) _ (λ i. dec-port-range (input D c i)))
       (dec-and (dec-below (output-count D c) _ (λ o. dec-port-range (output D c o)))
@@ -113,7 +115,8 @@ module _ (D : Design) (c : ℕ) where
   unfoldable pub dec-widths : Dec (Widths D c)
   dec-widths =
       dec-by (λ h. record { argument-wide = h .0; connection-wide = h .1 }) (λ r. (r .argument-wide, r .connection-wide))
-      (dec-and (dec-arguments _ (λ j i. dec-wide (argument D c j i) (input D (invoked D c j) i))) (dec-connections _ (λ o. dec-wide (connection D c o) (output D c o))))
+      (dec-and (dec-arguments _ (λ j i. dec-wide (argument D c j i) (input D (invoked D c j) i)))
+      (dec-connections _ (λ o. dec-wide (connection D c o) (output D c o))))
 
   unfoldable pub dec-intervals : Dec (Intervals D c)
   dec-intervals =
@@ -145,7 +148,14 @@ module _ (D : Design) (c : ℕ) where
   unfoldable pub dec-rules : Dec (Rules D c)
   dec-rules =
       dec-by
-      (λ h. record { references = h .0; widths = h .1 .0; intervals = h .1 .1 .0; spacing = h .1 .1 .1 .0; span = h .1 .1 .1 .1 .0; reading = h .1 .1 .1 .1 .1 })
+      (λ h. record {
+        references = h .0;
+        widths = h .1 .0;
+        intervals = h .1 .1 .0;
+        spacing = h .1 .1 .1 .0;
+        span = h .1 .1 .1 .1 .0;
+        reading = h .1 .1 .1 .1 .1;
+      })
       (λ r. (r .references, (r .widths, (r .intervals, (r .spacing, (r .span, r .reading))))))
       (dec-and dec-references (dec-and dec-widths (dec-and dec-intervals (dec-and dec-spacing (dec-and dec-span dec-reading)))))
 
@@ -160,9 +170,12 @@ dec-lawful D =
 
 -- The answer, with all that it takes to compute it.
 unfoldable pub is-lawful : Design → Bool
-unfolding dec-by dec-if dec-and dec-or dec-differ dec-class dec-below ℕ-discrete decLe decLt no-port no-call no-component component class delay input-count output-count instance-count invocation-count argument-count connection-count input output made-of call instance invoked offset argument connection takes gives dec-port-range dec-source-range dec-contains dec-invocations dec-arguments dec-connections dec-ranges dec-whole dec-counts dec-there dec-references dec-wide dec-widths dec-intervals dec-spacing dec-span dec-ready dec-reading dec-rules dec-lawful
+unfolding dec-by dec-if dec-and dec-or dec-differ dec-class dec-below ℕ-discrete decLe decLt no-port no-call no-component component class delay
+    input-count output-count instance-count invocation-count argument-count connection-count input output made-of call instance invoked offset
+    argument connection takes gives dec-port-range dec-source-range dec-contains dec-invocations dec-arguments dec-connections dec-ranges dec-whole
+    dec-counts dec-there dec-references dec-wide dec-widths dec-intervals dec-spacing dec-span dec-ready dec-reading dec-rules dec-lawful
 is-lawful D = decided (dec-lawful D)
 
-pub lawful-if : (D : Design) → T (is-lawful D) → Lawful D
+pub lawful-exactly : (D : Design) → T (is-lawful D) ↔ Lawful D
 unfolding is-lawful
-lawful-if D t = decided-holds (dec-lawful D) t
+lawful-exactly D = (decided-holds (dec-lawful D), holds-decided (dec-lawful D))

@@ -1,5 +1,6 @@
 -- Two different uses of one unit: the one is over when the other begins.
--- The top's starts are its delay apart. One level down, two invocations of one instance are kept apart by the spacing rule where all above is the same, and by the span rule where it is not.
+-- The top's starts are its delay apart. One level down, two invocations of one instance are kept apart
+-- by the spacing rule where the uses around them are one use, and by the span rule where they are two.
 -- Assumes nothing.
 use Prim.Native.Nat.{ℕ, _+_, _≤_, _<_}
 use mathlib.Core.Path.{_≡_, refl, sym, ap}
@@ -49,27 +50,30 @@ module _ {D : Design} {top : ℕ} (h : Placed D top) where
   lasts-delay j [] w = refl
   lasts-delay j (i ∷ p) w = takes-built D (reach D top p) i (path-built (invocations-down h) j (i ∷ p) w)
 
--- Use p of start t and use q of start t′ are one, or one of them, lasting d, is over when the other, lasting d′, begins.
-module _ (D : Design) (top t t′ : ℕ) where
-  abbrev pub Once : (p q : List ℕ) (d d′ : ℕ) → Type 0
-  Once p q d d′ = ((t ≡ t′) × (p ≡ q)) ⊎ Clear (t + after D top p) d (t′ + after D top q) d′
+-- Use p of start t, begun in cycle t + a and lasting d, and use q of start t′ are one use, or the one is over when the other begins.
+abbrev pub Once : (t : ℕ) (p : List ℕ) (a d t′ : ℕ) (q : List ℕ) (a′ d′ : ℕ) → Type 0
+Once t p a d t′ q a′ d′ = ((t ≡ t′) × (p ≡ q)) ⊎ Clear (t + a) d (t′ + a′) d′
 
+module _ (D : Design) (top t t′ : ℕ) where
   -- One level down, by invocations j and j′ of one instance of component c.
-  once-inside : (p q : List ℕ) (j j′ c : ℕ) → Rules D c → j < invocation-count D c → j′ < invocation-count D c → instance D c j ≡ instance D c j′ → Once p q (delay D c) (delay D c)
-      → ((t ≡ t′) × (_≡_ {A = List ℕ} (j ∷ p) (j′ ∷ q))) ⊎ Clear (t + (after D top p + offset D c j)) (takes D c j) (t′ + (after D top q + offset D c j′)) (takes D c j′)
+  once-inside : (p q : List ℕ) (j j′ c : ℕ) → Rules D c → j < invocation-count D c → j′ < invocation-count D c → instance D c j ≡ instance D c j′
+      → Once t p (after D top p) (delay D c) t′ q (after D top q) (delay D c)
+      → Once t (j ∷ p) (after D top p + offset D c j) (takes D c j) t′ (j′ ∷ q) (after D top q + offset D c j′) (takes D c j′)
   once-inside p q j j′ c rules l l′ i (inl h) = go (ℕ-discrete j j′)
     where
-      go : Dec (j ≡ j′)
-          → ((t ≡ t′) × (_≡_ {A = List ℕ} (j ∷ p) (j′ ∷ q))) ⊎ Clear (t + (after D top p + offset D c j)) (takes D c j) (t′ + (after D top q + offset D c j′)) (takes D c j′)
+      go : Dec (j ≡ j′) → Once t (j ∷ p) (after D top p + offset D c j) (takes D c j) t′ (j′ ∷ q) (after D top q + offset D c j′) (takes D c j′)
       go (yes e) = inl (h .0, cc)
-      go (no n) = inr (clear-shifted t t′ (after D top p) (after D top q) _ _ _ _ (h .0) (ap (after D top) (h .1)) (rules .spacing j l j′ l′ i (omega arith)))
+      go (no n) =
+          let k = rules .spacing j l j′ l′ i (omega arith) in
+          inr (clear-shifted t t′ (after D top p) (after D top q) _ _ _ _ (h .0) (ap (after D top) (h .1)) k)
   once-inside p q j j′ c rules l l′ i (inr h) =
       let a = rules .span j′ l′ j l (cc) in
       let b = rules .span j l j′ l′ i in
       inr (clear-inside (delay D c) t t′ (after D top p) (after D top q) _ _ _ _ h (omega arith) (omega arith))
 
 module _ {D : Design} {top : ℕ} {S : ℕ → Type 0} (g : Started D top S) (t t′ : ℕ) (s : S t) (s′ : S t′) where
-  pub once : (p q : List ℕ) → Path-of D top p → Path-of D top q → unit D top p ≡ unit D top q → Once D top t t′ p q (lasts D top p) (lasts D top q)
+  pub once : (p q : List ℕ) → Path-of D top p → Path-of D top q → unit D top p ≡ unit D top q
+      → Once t p (after D top p) (lasts D top p) t′ q (after D top q) (lasts D top q)
   once [] [] v w e = ⊎-elim (λ h. inl (h, refl)) (λ h. inr (simp add-zero h)) (starts-clear (delay D top) S (g .starts) t t′ s s′)
   once [] (j ∷ q) v w e = absurd (nil≢cons e)
   once (j ∷ p) [] v w e = absurd (nil≢cons (sym e))

@@ -5,10 +5,10 @@ use Prim.Native.Nat.{ℕ, _+_}
 use mathlib.Core.Path.{_≡_, refl, sym, ap, _∙_}
 use mathlib.Core.List.{List, [], _∷_}
 use native.Mathlib.Omega.{arith}
-use Rattle.timeline.specs.Design.{Design, Source, own, output-of, constant, built, class, input-count, invocation-count, input, output, invoked, argument}
+use Rattle.timeline.specs.Design.{Design, Source, own, output-of, built, class, invocation-count, output, invoked, argument}
 use Rattle.timeline.specs.Design.{connection, gives}
 use Rattle.timeline.specs.Rules.{Holds}
-use Rattle.timeline.specs.Uses.{End, at-constant, at-input, at-output, reach, Path-of, unit, after, From, here-constant, here-input, here-output, up}
+use Rattle.timeline.specs.Uses.{End, at-output, reach, Path-of, unit, after, From, here-constant, here-input, here-output, up}
 use Rattle.timeline.specs.Uses.{down}
 use Rattle.timeline.specs.Wires.{Pin, component-of, pin, Carries, by-constant, by-top, by-leaf, by-connection, by-argument}
 use Rattle.timeline.specs.Proofs.Takes.{gives-built}
@@ -37,7 +37,8 @@ module _ {D : Design} {top : ℕ} (h : Placed D top) (t x : ℕ) where
       connection-offered h t (j ∷ p) k x (o .1, w) c (o .2) b
 
 module _ {D : Design} {top : ℕ} {S : ℕ → Type 0} (g : Started D top S) (t : ℕ) (s : S t) (x : ℕ) where
-  pub carried : {p : List ℕ} {r : Source} {e : End} → From D top p r e → Path-of D top p → Offers D top t x p r → Carries D top S x (unit D top p) r (pin D top e)
+  pub carried : {p : List ℕ} {r : Source} {e : End} → From D top p r e → Path-of D top p → Offers D top t x p r
+      → Carries D top S x (unit D top p) r (pin D top e)
   unfolding invoked
   carried here-constant w o = by-constant
   carried here-input w o = by-top
@@ -63,7 +64,8 @@ module _ {D : Design} {top : ℕ} {S : ℕ → Type 0} (g : Started D top S) (t 
       let b : component-of D top u ≡ reach D top p = ap (component-of D top) a ∙ unit-component D top p in
       let c′ : class D (reach D top (j ∷ p)) ≡ built = rw b at c in
       let o′ : Offers D top t x p (output-of j k) = rw (← q) at o in
-      nothing-else (j ∷ p) (connection D (reach D top (j ∷ p)) k) e m (cc) (cc) (o′ .1, w) (step-down (g .placed) t x p j k w c′ o′) (connection-end (rw (← q) at f) c′)
+      nothing-else (j ∷ p) (connection D (reach D top (j ∷ p)) k) e m (cc) (cc) (o′ .1, w)
+      (step-down (g .placed) t x p j k w c′ o′) (connection-end (rw (← q) at f) c′)
   nothing-else [] r′ e (by-argument t′ j′ p′ s′ w′ a′ h′ m) a q w o f = cc
   nothing-else (j ∷ p) r′ e (by-argument {u = u} {i = i} t′ j′ p′ s′ w′ a′ h′ m) a q w o f =
       let o′ : Offers D top t x (j ∷ p) (own i) = rw (← q) at o in
@@ -73,5 +75,6 @@ module _ {D : Design} {top : ℕ} {S : ℕ → Type 0} (g : Started D top S) (t 
       let z : argument D (reach D top p′) j′ i ≡ argument D (reach D top p) j i = cc in
       nothing-else p (argument D (reach D top p) j i) e m y z (w .1) (step-up (g .placed) t x p j i w o′) (argument-end (rw (← q) at f))
 
-  pub alone : (p : List ℕ) (r : Source) (e : End) (v : Pin) → Path-of D top p → Offers D top t x p r → From D top p r e → Carries D top S x (unit D top p) r v → v ≡ pin D top e
+  pub alone : (p : List ℕ) (r : Source) (e : End) (v : Pin) → Path-of D top p → Offers D top t x p r → From D top p r e
+      → Carries D top S x (unit D top p) r v → v ≡ pin D top e
   alone p r e v w o f c = nothing-else p r e c refl refl w o f

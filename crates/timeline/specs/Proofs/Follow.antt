@@ -1,5 +1,6 @@
 -- Following a source ends where something is promised.
--- Up an argument the path gets shorter. Down a connection the component gets lower, and within a component an argument names earlier invocations only: so `sources` recurses on the component, and inside it on the number of the invocation.
+-- Up an argument the path gets shorter; down a connection the component gets lower; and an argument names earlier invocations only.
+-- So `sources` recurses on the component, and inside it on the number of the invocation.
 -- Assumes nothing.
 use Prim.Native.Nat.{ℕ, zero, suc, _+_, _<_}
 use mathlib.Core.Path.{_≡_, refl}
@@ -18,7 +19,8 @@ use Rattle.timeline.specs.Proofs.Offered.{Offered, offered-more, argumen
 use Rattle.timeline.specs.Proofs.OneEnd.{one-end}
 
 -- An end that is promised is all there is to find.
-found-at : (D : Design) (top : ℕ) (S : ℕ → Type 0) (t : ℕ) (p : List ℕ) (s : Source) (x : ℕ) (e : End) → From D top p s e → Promised D top S t x e → Found D top S t p s x
+found-at : (D : Design) (top : ℕ) (S : ℕ → Type 0) (t : ℕ) (p : List ℕ) (s : Source) (x : ℕ) (e : End)
+    → From D top p s e → Promised D top S t x e → Found D top S t p s x
 found-at D top S t p s x e f h = record { end = e; from = f; one-end = λ e′ f′. one-end f′ f; promised = h }
 
 module _ {D : Design} {top : ℕ} {S : ℕ → Type 0} (g : Started D top S) (t : ℕ) (s : S t) where
@@ -35,7 +37,8 @@ module _ {D : Design} {top : ℕ} {S : ℕ → Type 0} (g : Started D top S) (t 
       found-at D top S t (j ∷ p) (own i) x (f .end) (up (f .from)) (f .promised)
 
   -- A leaf's output is promised by the use itself, and a built component's is found where its connection's source is.
-  output-found : (p : List ℕ) (j o x : ℕ) → Path-of D top (j ∷ p) → o < output-count D (reach D top (j ∷ p)) → Holds (gives D (reach D top p) j o) (t + after D top (j ∷ p)) x
+  output-found : (p : List ℕ) (j o x : ℕ) → Path-of D top (j ∷ p) → o < output-count D (reach D top (j ∷ p))
+      → Holds (gives D (reach D top p) j o) (t + after D top (j ∷ p)) x
       → Sources-found (j ∷ p) (invocation-count D (reach D top (j ∷ p))) → Found D top S t p (output-of j o) x
   output-found p j o x w l h found = go (class D c) refl
     where

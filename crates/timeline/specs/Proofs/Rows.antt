@@ -7,43 +7,45 @@ use mathlib.Core.List.{List, [], _∷_, map}
 use lib.ListN.{length, getD, length-map}
 use native.Mathlib.Nat.{add-zero, zero-add}
 use native.Mathlib.Omega.{arith}
-use Rattle.timeline.specs.Design.{Design, Class, leaf, built, class, invocation-count, instance-count, made-of, instance, invoked, offset}
+use Rattle.timeline.specs.Design.{Design, leaf, built, class, invocation-count, instance-count, made-of, instance, invoked, offset}
 use Rattle.timeline.specs.Rules.{Lawful}
 use Rattle.timeline.specs.Paths.{by-invocations, by-instances}
 use Rattle.timeline.specs.Uses.{reach, Path-of, unit, after}
-use Rattle.timeline.specs.Flat.{by-class, sum-below, join-below, leaf-count, count-before, leaves-to, leaves, Leaf-path, place, Row, row-count}
-use Rattle.timeline.specs.Flat.{unit-count, units-before, rows-to, rows-from, rows, uses, unit-number, row-from, row-of}
+use Rattle.timeline.specs.Flat.{sum-below, join-below, leaf-count, count-before, leaves-to, leaves, Leaf-path, place, Row, row-count}
+use Rattle.timeline.specs.Flat.{unit-count, units-before, rows-to, rows-from, rows, uses, unit-number, row-of}
 use Rattle.timeline.specs.Proofs.Down.{Placed, instances-down, invocations-down, path-lower, use-ranges, unit-component, unit-path}
-use Rattle.timeline.specs.Proofs.Joins.{by-class-same, join-same, map-join, getD-map-below}
-use Rattle.timeline.specs.Proofs.Leaves.{length-leaves, leaves-depth, count-leaf, count-built, in-order}
-
-by-class-map : {A B : Type 0} (g : A → B) (k : Class) (a : A) (s : List B) (r : List A) → s ≡ map g r → by-class k (g a ∷ []) s ≡ map g (by-class k (a ∷ []) r)
-by-class-map g leaf a s r h = refl
-by-class-map g built a s r h = h
+use Rattle.timeline.specs.Proofs.Joins.{by-class-map, join-same, map-join, getD-map-below}
+use Rattle.timeline.specs.Proofs.Depth.{length-leaves, leaves-depth, count-leaf, count-built}
+use Rattle.timeline.specs.Proofs.Leaves.{in-order}
 
 no-length : {A : Type 0} (l : List A) → length l ≡ 0 → l ≡ []
 no-length [] h = refl
 no-length (x ∷ l) h = absurd (omega arith)
 
 module _ (D : Design) (top t u : ℕ) where
+  -- The row of the use p, the top being begun in cycle t and its units numbered from u.
+  unfoldable pub row-from : List ℕ → Row
+  row-from p = record { cycle = t + after D top p; unit = u + unit-number D top (unit D top p); component = reach D top p }
+
   number-next : (p : List ℕ) (j : ℕ) → unit-number D top (unit D top p) + units-before D (reach D top p) j ≡ unit-number D top (unit D top (j ∷ p))
   unfolding units-before
   number-next p j = rw (unit-component D top p)
 
   rows-below : (f : ℕ) (p : List ℕ)
-      → rows-to D f (reach D top p) (t + after D top p) (u + unit-number D top (unit D top p)) ≡ map (row-from D top t u) (leaves-to D (by-invocations D) f (reach D top p) p)
+      → rows-to D f (reach D top p) (t + after D top p) (u + unit-number D top (unit D top p))
+      ≡ map row-from (leaves-to D (by-invocations D) f (reach D top p) p)
   unfolding rows-to leaves-to row-from
   rows-below zero p = refl
   rows-below (suc f) p =
-      by-class-map (row-from D top t u) (class D (reach D top p)) p _ _
+      by-class-map row-from (class D (reach D top p)) p _ _
       (join-same (invocation-count D (reach D top p)) _ _
       (λ j l. let n = number-next p j in ap₂ (rows-to D f (reach D top (j ∷ p))) (omega arith) (omega arith) ∙ rows-below f (j ∷ p))
-      ∙ sym (map-join (row-from D top t u) (invocation-count D (reach D top p)) (λ j. leaves-to D (by-invocations D) f (reach D top (j ∷ p)) (j ∷ p))))
+      ∙ sym (map-join row-from (invocation-count D (reach D top p)) (λ j. leaves-to D (by-invocations D) f (reach D top (j ∷ p)) (j ∷ p))))
 
-  rows-uses-to : (f : ℕ) → rows-to D f top t u ≡ map (row-from D top t u) (leaves-to D (by-invocations D) f top [])
+  rows-uses-to : (f : ℕ) → rows-to D f top t u ≡ map row-from (leaves-to D (by-invocations D) f top [])
   rows-uses-to f = rw (add-zero t, add-zero u) at (rows-below f [])
 
-  pub rows-from-uses : rows-from D top t u ≡ map (row-from D top t u) (uses D top)
+  pub rows-from-uses : rows-from D top t u ≡ map row-from (uses D top)
   unfolding rows-from leaves
   rows-from-uses = rows-uses-to (suc top)
 
@@ -72,7 +74,8 @@ module _ {D : Design} (lawful : Lawful D) where
   pub rows-depth : (f c t u : ℕ) → c < length D → c < f → rows-to D f c t u ≡ rows-from D c t u
   unfolding rows-from
   rows-depth f c t u h l =
-      rows-uses-to D c t u f ∙ ap (map (row-from D c t u)) (leaves-depth (invocations-down (here c h)) f (suc c) c [] h l (omega arith)) ∙ sym (rows-uses-to D c t u (suc c))
+      let e = leaves-depth (invocations-down (here c h)) f (suc c) c [] h l (omega arith) in
+      rows-uses-to D c t u f ∙ ap (map (row-from D c t u)) e ∙ sym (rows-uses-to D c t u (suc c))
 
   -- "The list of a built component is the lists of its invocations joined in order, each with its offset added."
   pub rows-built : (c t u : ℕ) → c < length D → class D c ≡ built
@@ -114,7 +117,8 @@ module _ {D : Design} {top : ℕ} (h : Placed D top) (p : List ℕ) (l : Leaf-pa
   use-row d =
       let o = in-order (invocations-down h) in
       let s = o .placed p l in
-      rw (rows-of-uses D top) (getD-map-below (row-of D top) (uses D top) (place D (by-invocations D) top p) [] d (omega (arith, s .0, o .counted)) ∙ ap (row-of D top) (s .1))
+      rw (rows-of-uses D top)
+      (getD-map-below (row-of D top) (uses D top) (place D (by-invocations D) top p) [] d (omega (arith, s .0, o .counted)) ∙ ap (row-of D top) (s .1))
 
   -- And its unit is a leaf.
   pub unit-leaf : Leaf-path D (by-instances D) top (unit D top p)
