@@ -1,0 +1,12 @@
+pub mod Lists
+pub mod Records
+pub mod Numbers
+pub mod Entered
+pub mod Asks
+pub mod Decisions
+pub mod Decide
+pub mod Verdict
+pub mod Answers
+pub mod Cases
+pub mod Proofs
+pub mod Main

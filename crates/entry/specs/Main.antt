@@ -1,0 +1,46 @@
+-- The main page: what the verdict on a list of records says.
+-- `Lawful` of timeline is the page of the rules: a design in range, whole, with not too many of a kind, that keeps rules 7 to 12. `Refusal` of Answers is the first record that breaks a rule.
+-- Assumes nothing.
+use Prim.Native.Nat.{ℕ, _<_}
+use mathlib.Core.Path.{_≡_, refl, sym, _∙_}
+use mathlib.Core.List.{List, _++_}
+use mathlib.Core.Logic.{_↔_}
+use lib.ListN.{length}
+use Rattle.timeline.specs.Design.{Design}
+use Rattle.timeline.specs.Rules.{Whole, Lawful}
+use Rattle.entry.specs.Records.{Record, records}
+use Rattle.entry.specs.Numbers.{Standing}
+use Rattle.entry.specs.Entered.{design}
+use Rattle.entry.specs.Answers.{Answer, accepted, refused, Refusal, Answers}
+use Rattle.entry.specs.Verdict.{verdict}
+use Rattle.entry.specs.Proofs.Standing.{standing}
+use Rattle.entry.specs.Proofs.Answered.{design-of-whole, accepted-lawful, answer-exactly}
+
+module _ (rs : List Record) where
+  -- Accepted with c components and r records, exactly when it is the record list of a design that is in range, whole and keeps the rules, with so many components and records.
+  pub accepted-exactly : (c r : ℕ) → (verdict rs ≡ accepted c r) ↔ ((D : Design) × Lawful D × (records D ≡ rs) × (length D ≡ c) × (length rs ≡ r))
+  accepted-exactly c r = answer-exactly rs (accepted c r)
+
+  -- Refused with n at p, exactly when no record before p breaks a rule and n is the lowest-numbered rule that record p breaks; the end of the list counts as a record that breaks 5 if something is missing.
+  pub refused-exactly : (n p : ℕ) → (verdict rs ≡ refused n p) ↔ Refusal rs n p
+  refused-exactly n p = answer-exactly rs (refused n p)
+
+  -- The rules leave one answer, and the verdict is it.
+  pub an-answer : Answers rs (verdict rs)
+  an-answer = (answer-exactly rs (verdict rs)) .0 refl
+
+  pub one-answer : (a b : Answer) → Answers rs a → Answers rs b → a ≡ b
+  one-answer a b h k = sym ((answer-exactly rs a) .1 h) ∙ (answer-exactly rs b) .1 k
+
+  -- The design that an accepted list says is lawful, and its records are the list.
+  pub its-records : (c r : ℕ) → verdict rs ≡ accepted c r → Lawful (design rs) × (records (design rs) ≡ rs)
+  its-records c r a = let h = accepted-lawful rs c r a in (h .0, h .1)
+
+module _ (D : Design) where
+  -- The records of a whole design say that design.
+  pub the-design : ((c : ℕ) → c < length D → Whole D c) → design (records D) ≡ D
+  the-design whole = design-of-whole D whole
+
+  -- Each part of it stands at its number, also where more records follow.
+  pub each-stands : (more : List Record) (c : ℕ) → c < length D → Standing D c (records D ++ more)
+  each-stands more c present = standing D more c present
