@@ -5,7 +5,7 @@ use Prim.Native.Nat.{ℕ, suc, _+_, _-_, _^_, _≤_, _<_}
 use mathlib.Core.Path.{_≡_}
 use mathlib.Core.List.{List, [], _∷_}
 use lib.ListN.{length, getD}
-use Rattle.timeline.specs.Design.{Component, Call, Port, Source, own, output-of, constant, Class, leaf, built, no-port, no-call, no-component}
+use Rattle.timeline.specs.Design.{Component, Call, Port, Source, own, output-of, constant, built, no-port, no-call, no-component}
 use Rattle.timeline.specs.Rules.{Port-range, Source-range, Clear, Contains}
 use Rattle.entry.specs.Records.{Part, input, output, instance, invocation, argument, connection, Record, wrong, component, part}
 use Rattle.entry.specs.Entered.{Entered, nothing, after}

@@ -5,7 +5,7 @@ use mathlib.Core.List.{List, [], _∷_}
 use Rattle.timeline.specs.Design.{Component, Port, Source, own, output-of, constant}
 use Rattle.entry.specs.Records.{Part, input, output, instance, invocation, argument, connection, Record, wrong, component, part}
 use Rattle.entry.specs.Entered.{Entered, nothing, after}
-use Rattle.entry.specs.Asks.{Asks, Part-range, In-range, Complete, Place, There, Wide, Ready, part-asks, further, asks, ending}
+use Rattle.entry.specs.Asks.{Asks, Part-range, In-range, There, Wide, Ready, part-asks, further, asks, ending}
 use Rattle.entry.specs.Decisions.{decisions}
 
 -- A decision for each rule.

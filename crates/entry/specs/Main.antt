@@ -13,8 +13,9 @@ use Rattle.entry.specs.Numbers.{Standing}
 use Rattle.entry.specs.Entered.{design}
 use Rattle.entry.specs.Answers.{Answer, accepted, refused, Refusal, Answers}
 use Rattle.entry.specs.Verdict.{verdict}
+use Rattle.entry.specs.Cases.{Answered, cases, computed}
 use Rattle.entry.specs.Proofs.Standing.{standing}
-use Rattle.entry.specs.Proofs.Answered.{design-of-whole, accepted-lawful, answer-exactly}
+use Rattle.entry.specs.Proofs.Exactly.{design-of-whole, accepted-lawful, answer-exactly, answered}
 
 module _ (rs : List Record) where
   -- Accepted with c components and r records, exactly when it is the record list of a design that is in range, whole and keeps the rules, with so many components and records.
@@ -44,3 +45,7 @@ module _ (D : Design) where
   -- Each part of it stands at its number, also where more records follow.
   pub each-stands : (more : List Record) (c : ℕ) → c < length D → Standing D c (records D ++ more)
   each-stands more c present = standing D more c present
+
+-- The starred cases of document 01 have the answers that it gives.
+pub starred-cases : Answered cases
+starred-cases = answered cases computed

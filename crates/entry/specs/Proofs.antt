@@ -1,17 +1,21 @@
--- Why the statements of Main hold.
+-- Why the statements of Main hold. Lists is used throughout.
+-- The answer is the first record that breaks a rule, and the lowest there: Lowest, Unbroken, Judged, Refused.
+-- Accepted gives a lawful design: Good, Kept, Grown, Steps. A lawful design gives accepted: Back, Rebuilt, Placed, Accepted.
+-- Both forms of the rules agree: Bridge. Together: Exactly. Where the records stand: Standing, Numbered.
 pub mod Lists
-pub mod Good
-pub mod Kept
-pub mod Back
-pub mod Grown
 pub mod Lowest
 pub mod Unbroken
 pub mod Judged
 pub mod Refused
+pub mod Good
+pub mod Kept
+pub mod Grown
 pub mod Steps
+pub mod Back
 pub mod Rebuilt
 pub mod Placed
 pub mod Accepted
 pub mod Bridge
+pub mod Exactly
 pub mod Standing
-pub mod Answered
+pub mod Numbered

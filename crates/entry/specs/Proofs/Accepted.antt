@@ -1,15 +1,11 @@
 -- The records of a design whose components are all finished break no rule: each stands in its place, and from the finished design one walks backwards.
 -- Assumes nothing.
-use Prim.Native.Nat.{ℕ, suc, _≤_, _<_}
-use mathlib.Core.Path.{_≡_, refl, sym, ap, _∙_}
 use mathlib.Core.List.{List, [], _∷_}
-use lib.ListN.{length}
 use native.Mathlib.Omega.{arith}
 use Rattle.timeline.specs.Design.{Design}
-use Rattle.entry.specs.Lists.{add-last}
 use Rattle.entry.specs.Records.{Record, wrong, component, part, records}
 use Rattle.entry.specs.Entered.{Entered, nothing, after, enter, enter-all, said, design}
-use Rattle.entry.specs.Asks.{Complete, asks, ending}
+use Rattle.entry.specs.Asks.{asks, ending}
 use Rattle.entry.specs.Proofs.Lists.{length-add-last}
 use Rattle.entry.specs.Proofs.Good.{Keeps, Finished, All, All-finished}
 use Rattle.entry.specs.Proofs.Back.{back}

@@ -1,14 +1,14 @@
 -- Backwards: a component that is good with a record in its place was good without it, and that record kept the rules.
 -- Assumes nothing.
-use Prim.Native.Nat.{ℕ, suc, _+_, _-_, _≤_, _<_}
-use mathlib.Core.Path.{_≡_, refl, sym, ap, _∙_}
-use mathlib.Core.List.{List, [], _∷_}
+use Prim.Native.Nat.{ℕ, suc, _-_, _<_}
+use mathlib.Core.Path.{_≡_, sym, _∙_}
+use mathlib.Core.List.{List, []}
 use lib.ListN.{length, getD}
 use native.Mathlib.Omega.{arith}
 use native.Mathlib.Decide.{ℕ-discrete}
 use Rattle.timeline.specs.Design.{Component, Call, Port, Source, constant, no-port, no-call}
 use Rattle.timeline.specs.Rules.{Port-range}
-use Rattle.entry.specs.Lists.{add-last, change-last}
+use Rattle.entry.specs.Lists.{add-last}
 use Rattle.entry.specs.Records.{Part, input, output, instance, invocation, argument, connection, part}
 use Rattle.entry.specs.Entered.{after, add}
 use Rattle.entry.specs.Asks.{Part-range, call, invoked, argument-count, Place, Short, Apart, Spans, asks}

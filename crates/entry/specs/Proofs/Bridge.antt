@@ -2,18 +2,18 @@
 -- Both look the invoked component up: among those before, and in the whole design. It is the same one, as every instance is of a lower component.
 -- Assumes nothing.
 use Prim.Native.Nat.{ℕ, _+_, _≤_, _<_}
-use mathlib.Core.Path.{_≡_, refl, sym, ap, _∙_}
-use mathlib.Core.List.{List, [], _∷_}
-use mathlib.Core.Logic.{_↔_, _≢_}
-use lib.ListN.{length, getD, take}
+use mathlib.Core.Path.{_≡_, refl, ap}
+use mathlib.Core.List.{List}
+use mathlib.Core.Logic.{_↔_}
+use lib.ListN.{length, take}
 use lib.Seq.{length-take-le, getD-take}
 use native.Mathlib.Omega.{arith}
 use native.Mathlib.Decide.{ℕ-discrete}
-use Rattle.timeline.specs.Design.{Design, Component, Port, Source, own, output-of, constant, leaf, no-component, component, class, delay, input-count, output-count, instance-count, invocation-count, argument-count, connection-count, input, output, made-of, call, instance, invoked, offset, argument, connection, takes, gives}
-use Rattle.timeline.specs.Rules.{Source-range, There, Wide, Ready, Ranges, Whole, Counts, References, Rules, Lawful}
+use Rattle.timeline.specs.Design.{Design, Component, Port, Source, own, output-of, constant, no-component, component, class, delay, input-count, output-count, instance-count, invocation-count, argument-count, connection-count, input, output, made-of, call, instance, invoked, offset, argument, connection, takes, gives}
+use Rattle.timeline.specs.Rules.{Source-range, There, Wide, Ready, Ranges, Whole, Counts, Rules, Lawful}
 use Rattle.entry.specs.Asks as A
 use Rattle.entry.specs.Proofs.Lists.{empty-of-length}
-use Rattle.entry.specs.Proofs.Good.{Fed, Good, Finished, All-finished}
+use Rattle.entry.specs.Proofs.Good.{Fed, Good, All-finished}
 
 module _ (D : Design) (c : ℕ) (present : c < length D) where
   abbrev E : List Component

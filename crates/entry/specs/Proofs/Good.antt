@@ -6,7 +6,7 @@ use mathlib.Core.List.{List, [], _∷_}
 use lib.ListN.{length, getD, take}
 use Rattle.timeline.specs.Design.{Design, Component, Port, Source, constant, leaf, no-port, no-call, no-component}
 use Rattle.timeline.specs.Rules.{Port-range, Source-range}
-use Rattle.entry.specs.Records.{Record, component, part, instance, invocation}
+use Rattle.entry.specs.Records.{component, instance, invocation}
 use Rattle.entry.specs.Asks.{Asks, Part-range, In-range, call, invoked, argument-count, Complete, There, Wide, Short, Apart, Spans, Ready}
 use Rattle.entry.specs.Proofs.Lists.{Each, Pairs}
 

@@ -1,8 +1,8 @@
 -- Forwards: a component that is good stays good with one more record that keeps the rules.
 -- Assumes nothing.
-use Prim.Native.Nat.{ℕ, suc, _+_, _-_, _≤_, _<_}
-use mathlib.Core.Path.{_≡_, refl, sym, ap, _∙_}
-use mathlib.Core.List.{List, [], _∷_}
+use Prim.Native.Nat.{ℕ, suc, _-_, _≤_, _<_}
+use mathlib.Core.Path.{_≡_, refl, sym, _∙_}
+use mathlib.Core.List.{List, []}
 use mathlib.Core.Logic.{⊎-swap}
 use lib.ListN.{length, getD}
 use native.Mathlib.Omega.{arith}

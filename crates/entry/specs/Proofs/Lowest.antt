@@ -1,11 +1,11 @@
 -- Among rules whose numbers rise, the first that is not kept is the lowest that is broken.
 -- Assumes nothing.
-use Prim.Native.Nat.{ℕ, _≤_, _<_}
-use mathlib.Core.Path.{_≡_, refl, sym}
-use mathlib.Core.List.{List, [], _∷_}
+use Prim.Native.Nat.{ℕ, _≤_}
+use mathlib.Core.Path.{refl}
+use mathlib.Core.List.{[], _∷_}
 use mathlib.Core.Logic.{_⊎_, inl, inr, ⊎-elim}
 use native.Mathlib.Omega.{arith}
-use Rattle.entry.specs.Records.{Part, input, output, instance, invocation, argument, connection, Record, wrong, component, part}
+use Rattle.entry.specs.Records.{input, output, instance, invocation, argument, connection, Record, wrong, component, part}
 use Rattle.entry.specs.Entered.{Entered, nothing, after}
 use Rattle.entry.specs.Asks.{Asks, asks, ending}
 use Rattle.entry.specs.Answers.{Broken}

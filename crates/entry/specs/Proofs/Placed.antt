@@ -1,15 +1,15 @@
 -- The records of a design of which nothing is missing stand each in its place.
 -- Assumes nothing.
-use Prim.Native.Nat.{ℕ, suc, _+_, _-_, _≤_, _<_}
-use mathlib.Core.Path.{_≡_, refl, sym, ap, _∙_}
+use Prim.Native.Nat.{ℕ, _+_, _-_, _≤_, _<_}
+use mathlib.Core.Path.{_≡_, refl}
 use mathlib.Core.List.{List, [], _∷_, _++_, map}
-use lib.ListN.{length, getD, length-append, List·getD-append}
+use lib.ListN.{length, length-append, List·getD-append}
 use lib.Seq.{getD-append-seam}
 use native.Mathlib.Omega.{arith}
 use native.Mathlib.Decide.{ℕ-discrete}
 use Rattle.timeline.specs.Design.{Design, Component, Call, Port, Source, Class, leaf, built, no-call}
-use Rattle.entry.specs.Lists.{add-last, change-last}
-use Rattle.entry.specs.Records.{input, output, instance, invocation, argument, connection, Record, wrong, component, part, invocations, parts, records}
+use Rattle.entry.specs.Lists.{add-last}
+use Rattle.entry.specs.Records.{input, output, instance, argument, connection, Record, wrong, component, part, invocations, parts, records}
 use Rattle.entry.specs.Entered.{Entered, nothing, after, new, enter, enter-all}
 use Rattle.entry.specs.Asks.{made-of, All-arguments, Complete, Place}
 use Rattle.entry.specs.Proofs.Lists.{none-in-empty, length-add-last, add-last-append, change-last-add-last, at-new}

@@ -1,16 +1,16 @@
 -- Entering the records of a design gives the design, whatever the rules say of it: it needs only one list of arguments for each call.
 -- Assumes nothing.
-use Prim.Native.Nat.{ℕ, _≤_, _<_}
+use Prim.Native.Nat.{ℕ}
 use mathlib.Core.Path.{_≡_, refl, sym, ap, _∙_}
 use mathlib.Core.List.{List, [], _∷_, _++_, map, append-nil}
 use lib.ListN.{length, length-append}
 use lib.Seq.{getD-append-seam, take-at}
 use native.Mathlib.Omega.{arith}
 use Rattle.timeline.specs.Design.{Design, Component, Call, Port, Source, Class, no-component}
-use Rattle.entry.specs.Lists.{add-last, change-last}
-use Rattle.entry.specs.Records.{input, output, instance, invocation, argument, connection, Record, component, part, invocations, parts, records}
+use Rattle.entry.specs.Lists.{add-last}
+use Rattle.entry.specs.Records.{input, output, instance, argument, connection, Record, part, invocations, parts, records}
 use Rattle.entry.specs.Entered.{Entered, nothing, after, new, enter-all, said, design}
-use Rattle.entry.specs.Proofs.Lists.{length-add-last, add-last-append, change-last-add-last}
+use Rattle.entry.specs.Proofs.Lists.{add-last-append, change-last-add-last}
 use Rattle.entry.specs.Proofs.Good.{Even, All}
 
 pub enter-append : (e : Entered) (xs ys : List Record) → enter-all e (xs ++ ys) ≡ enter-all (enter-all e xs) ys

@@ -1,7 +1,7 @@
 -- Where the walk stops is the refusal: the first record that breaks a rule, and the lowest number of a rule that it breaks. No list has two.
 -- Assumes nothing.
 use Prim.Native.Nat.{ℕ, zero, suc, _+_, _≤_, _<_}
-use mathlib.Core.Path.{_≡_, refl, sym, ap, _∙_}
+use mathlib.Core.Path.{_≡_, refl}
 use mathlib.Core.List.{List, [], _∷_}
 use mathlib.Core.Logic.{_⊎_, inl, inr, _↔_, ⊎-elim}
 use lib.ListN.{length, getD, take}
@@ -9,10 +9,10 @@ use native.Mathlib.Omega.{arith}
 use Rattle.entry.specs.Records.{Record, wrong}
 use Rattle.entry.specs.Entered.{Entered, nothing, enter, enter-all, said, design}
 use Rattle.entry.specs.Asks.{asks, ending}
-use Rattle.entry.specs.Answers.{Answer, accepted, refused, Broken, Refusal}
+use Rattle.entry.specs.Answers.{accepted, refused, Broken, Refusal}
 use Rattle.entry.specs.Verdict.{judge, verdict}
 use Rattle.entry.specs.Proofs.Good.{Keeps}
-use Rattle.entry.specs.Proofs.Lowest.{Lowest, kept-unbroken}
+use Rattle.entry.specs.Proofs.Lowest.{kept-unbroken}
 use Rattle.entry.specs.Proofs.Unbroken.{Unbroken, Stops}
 use Rattle.entry.specs.Proofs.Judged.{Judged, goes, stops, judged}
 

@@ -1,13 +1,13 @@
 -- At the number of each part stands its record.
 -- Assumes nothing.
-use Prim.Native.Nat.{ℕ, zero, suc, _+_, _≤_, _<_}
-use mathlib.Core.Path.{_≡_, refl, sym, ap, _∙_}
+use Prim.Native.Nat.{ℕ, zero, suc, _+_, _<_}
+use mathlib.Core.Path.{_≡_, refl, ap, _∙_}
 use mathlib.Core.List.{List, [], _∷_, _++_, map, append-assoc}
-use lib.ListN.{length, getD, take, drop, length-append, List·getD-append, length-map}
+use lib.ListN.{length, getD, take, drop, length-append, length-map}
 use lib.Seq.{getD-append-add}
 use native.Mathlib.Omega.{arith}
 use native.Mathlib.Decide.{decLt}
-use Rattle.timeline.specs.Design.{Design, Component, Call, Port, Source, constant, leaf, no-component, no-port, no-call, component, class, delay, input-count, output-count, instance-count, invocation-count, argument-count, connection-count, input, output, made-of, call, argument, connection}
+use Rattle.timeline.specs.Design.{Design, Component, Call, Source, constant, leaf, no-component, no-port, no-call, component, class, delay, input-count, output-count, instance-count, invocation-count, argument-count, connection-count, input, output, made-of, call, argument, connection}
 use Rattle.entry.specs.Records
 use Rattle.entry.specs.Records.{Record, part, invocations, parts, records}
 use Rattle.entry.specs.Numbers.{component-number, input-number, output-number, instance-number, invocation-number, argument-number, connection-number, At, Standing}
@@ -55,12 +55,12 @@ from-component (C ∷ D) more (suc c) n r l =
     (past (own-records C) (records D ++ more) (length (own-records C ++ records (take c D)) + n) (component-number D c + n) r (omega arith) ∙ from-component D more c n r (omega arith))
 
 -- How many records stand before invocation j, of the invocations' records.
-unfoldable up-to : List (List Source) → ℕ → ℕ
+unfoldable pub up-to : List (List Source) → ℕ → ℕ
 up-to lists zero = 0
 up-to lists (suc j) = up-to lists j + 1 + length (getD lists j [])
 
 -- The lists of arguments after the first.
-abbrev rest : List (List Source) → List (List Source)
+abbrev pub rest : List (List Source) → List (List Source)
 rest [] = []
 rest (a ∷ lists) = lists
 
@@ -68,16 +68,16 @@ at-rest : (lists : List (List Source)) (j : ℕ) → getD lists (suc j) [] ≡ g
 at-rest [] j = refl
 at-rest (a ∷ lists) j = refl
 
-up-to-next : (lists : List (List Source)) (j : ℕ) → up-to lists (suc j) ≡ suc (length (getD lists 0 [])) + up-to (rest lists) j
+pub up-to-next : (lists : List (List Source)) (j : ℕ) → up-to lists (suc j) ≡ suc (length (getD lists 0 [])) + up-to (rest lists) j
 unfolding up-to
 up-to-next lists zero = omega arith
 up-to-next lists (suc j) = let h = up-to-next lists j in let e = ap length (at-rest lists j) in omega arith
 
-abbrev of-argument : Source → Record
+abbrev pub of-argument : Source → Record
 of-argument s = part (Records.argument s)
 
 -- The records of the first invocation, and those of the others.
-first-invocation : (v : Call) (calls : List Call) (lists : List (List Source)) → invocations (v ∷ calls) lists ≡ part (Records.invocation v) ∷ (map of-argument (getD lists 0 []) ++ invocations calls (rest lists))
+pub first-invocation : (v : Call) (calls : List Call) (lists : List (List Source)) → invocations (v ∷ calls) lists ≡ part (Records.invocation v) ∷ (map of-argument (getD lists 0 []) ++ invocations calls (rest lists))
 unfolding invocations
 first-invocation v calls [] = refl
 first-invocation v calls (a ∷ lists) = refl
@@ -157,7 +157,7 @@ module _ (D : Design) (more : List Record) (c : ℕ) (present : c < length D) wh
       let z = length-map (C .outputs) (λ p. part (Records.output p)) in
       rw e (from-outputs (output-count D c + n) r ∙ past (map (λ p. part (Records.output p)) (C .outputs)) after-outputs (output-count D c + n) n r (omega arith))
 
-  invocation-up-to : (j : ℕ) → invocation-number D c j ≡ instance-number D c (instance-count D c + up-to (C .arguments) j)
+  pub invocation-up-to : (j : ℕ) → invocation-number D c j ≡ instance-number D c (instance-count D c + up-to (C .arguments) j)
   unfolding invocation-number instance-number argument-count up-to
   invocation-up-to zero = omega arith
   invocation-up-to (suc j) = let h = invocation-up-to j in omega arith

@@ -1,6 +1,6 @@
 -- An unbroken list of records says a design whose components are all finished, and is the list of its records.
 -- Assumes nothing.
-use Prim.Native.Nat.{ℕ, suc, _≤_, _<_}
+use Prim.Native.Nat.{suc, _≤_, _<_}
 use mathlib.Core.Path.{_≡_, refl, sym, ap, _∙_}
 use mathlib.Core.List.{List, [], _∷_, _++_, append-nil, append-assoc}
 use lib.ListN.{length, getD, take}
@@ -10,8 +10,8 @@ use native.Mathlib.Decide.{ℕ-discrete}
 use Rattle.timeline.specs.Design.{Design, Component, no-component}
 use Rattle.entry.specs.Lists.{add-last}
 use Rattle.entry.specs.Records.{Part, input, output, instance, invocation, argument, connection, Record, wrong, component, part, invocations, parts, records}
-use Rattle.entry.specs.Entered.{Entered, nothing, after, new, add, enter, enter-all, said, design}
-use Rattle.entry.specs.Asks.{Place, Complete, part-asks, asks, ending}
+use Rattle.entry.specs.Entered.{Entered, nothing, after, new, enter, enter-all, said, design}
+use Rattle.entry.specs.Asks.{Place, part-asks, asks, ending}
 use Rattle.entry.specs.Proofs.Lists.{length-add-last, at-old, at-new}
 use Rattle.entry.specs.Proofs.Good.{Keeps, Good, Finished, All, All-finished}
 use Rattle.entry.specs.Proofs.Kept.{kept, new-good}

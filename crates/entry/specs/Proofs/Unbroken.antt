@@ -1,7 +1,7 @@
 -- From any record on: no record breaks a rule and nothing is missing at the end; or the one at position p is the first that breaks one, and n the lowest that it breaks.
 -- These are the walks of the proofs. `Refusal` of Answers says the second by the numbers of the records.
 -- Assumes nothing.
-use Prim.Native.Nat.{ℕ, zero, suc, _≤_, _<_}
+use Prim.Native.Nat.{ℕ, zero, suc}
 use mathlib.Core.List.{List, [], _∷_}
 use Rattle.entry.specs.Records.{Record}
 use Rattle.entry.specs.Entered.{Entered, enter}

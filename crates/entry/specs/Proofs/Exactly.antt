@@ -1,16 +1,17 @@
 -- The verdict gives the answer that the rules demand, and a record list and its design are each other's.
 -- Assumes nothing.
 use Prim.Native.Nat.{ℕ, _<_}
-use mathlib.Core.Path.{_≡_, refl, sym, ap, _∙_}
+use mathlib.Core.Path.{_≡_}
 use mathlib.Core.List.{List, [], _∷_, map}
 use mathlib.Core.Logic.{_↔_}
-use lib.ListN.{length, getD}
+use lib.ListN.{length}
 use Rattle.timeline.specs.Design.{Design, component, invocation-count}
 use Rattle.timeline.specs.Rules.{Whole, Lawful}
 use Rattle.entry.specs.Records.{Record, records}
 use Rattle.entry.specs.Entered.{design}
 use Rattle.entry.specs.Answers.{Answer, accepted, refused, Answers}
 use Rattle.entry.specs.Verdict.{verdict}
+use Rattle.entry.specs.Cases.{Answered}
 use Rattle.entry.specs.Proofs.Refused.{refusal-exactly, accepted-unbroken, unbroken-accepted}
 use Rattle.entry.specs.Proofs.Steps.{unbroken-finished}
 use Rattle.entry.specs.Proofs.Rebuilt.{design-records}
@@ -38,3 +39,10 @@ answer-exactly rs (accepted c r) = (λ a. let h = accepted-lawful rs c r a in (d
     from : Answers rs (accepted c r) → verdict rs ≡ accepted c r
     from (D, h, e, f, g) = let u = rw e at (lawful-accepted D h) in cc
 answer-exactly rs (refused n p) = refusal-exactly rs n p
+
+pub answered : (l : List (List Record × Answer)) → map (λ t. verdict (t .0)) l ≡ map (λ t. t .1) l → Answered l
+answered [] e = tt
+answered (t ∷ l) e =
+    let head : verdict (t .0) ≡ t .1 = cc in
+    let tail : map (λ t. verdict (t .0)) l ≡ map (λ t. t .1) l = cc in
+    ((answer-exactly (t .0) (t .1)) .0 head, answered l tail)
