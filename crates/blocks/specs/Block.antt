@@ -5,12 +5,8 @@ use mathlib.Core.List.{List, [], _∷_}
 use mathlib.Core.Bool.{Bool, true, false, _&&_, _||_}
 use lib.ListN.{getD, take, drop}
 use lib.Dec.{leb, eqb}
-use Rattle.numbers.specs.Numbers.{number}
+use Rattle.numbers.specs.Numbers.{number, all-zero}
 use Rattle.fnv.specs.Fnv.{hash}
-
-abbrev pub all-zero : List ℕ → Bool
-all-zero [] = true
-all-zero (b ∷ s) = eqb b 0 && all-zero s
 
 -- The bytes from place a up to place e.
 abbrev pub part : List ℕ → (a e : ℕ) → List ℕ

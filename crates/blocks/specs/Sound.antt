@@ -11,9 +11,9 @@ use lib.Seq.{getD-take, getD-drop}
 use lib.Dec.{ltb, eqb}
 use borrow.Author.Tests.{ltb-true, eqb-true, eq-eqb}
 use Rattle.answers.specs.Answer.{Answer, accepted, refused, then}
-use Rattle.numbers.specs.Numbers.{number}
+use Rattle.numbers.specs.Numbers.{number, all-zero}
 use Rattle.numbers.specs.Tests.{Between, and-both, between, between-back}
-use Rattle.blocks.specs.Block.{all-zero, part, count-allowed, mark, check-right, header-right}
+use Rattle.blocks.specs.Block.{part, count-allowed, mark, check-right, header-right}
 use Rattle.blocks.specs.File.{length-allowed, Allowed, block-count, block, record-count, sound-from, sound, record-place, present, record-answer}
 
 -- The parts of a header that is right.

@@ -7,7 +7,8 @@ ghost use mathlib.Core.Path.{_≡_};
 ghost use Prim.Native.Nat.{_+_, _*_, _/_, _<_};
 ghost use lib.ListN.{length};
 ghost use Rattle.answers.specs.Answer.{counted, looked-up};
-ghost use Rattle.blocks.specs.Block.{all-zero, mark, count-allowed, check-right, header-right};
+ghost use Rattle.numbers.specs.Numbers.{all-zero};
+ghost use Rattle.blocks.specs.Block.{mark, count-allowed, check-right, header-right};
 ghost use Rattle.blocks.specs.File.{length-allowed, Allowed, sound-from, sound, record-answer, part-place, part-bytes};
 
 fn index(x: u8) -> usize

@@ -4,6 +4,7 @@ use Prim.Native.Nat.{ℕ, zero, suc, _+_, _*_, _/_, _%_, _^_, _≤_, _<_}
 use mathlib.Core.Path.{_≡_, refl, ap, _∙_}
 use mathlib.Core.List.{List, [], _∷_, _++_}
 use native.Mathlib.Omega.{arith}
+use native.Mathlib.Nat.{add-suc}
 use native.Mathlib.Numerals.{add-one}
 use lib.ListN.{length, getD, take, drop, replicate, length-take, length-drop, length-replicate, getD-replicate}
 use lib.Seq.{drop-cons, getD-take, getD-drop, length-take-le}
@@ -43,6 +44,16 @@ pub length-bytes : (w x : ℕ) → length (bytes w x) ≡ w
 length-bytes zero x = refl
 length-bytes (suc w) x = ap suc (length-bytes w (x / 256))
 
+-- ---- four bytes, one by one
+next : (s : List ℕ) (at k : ℕ) → at + k < length s → drop (at + k) s ≡ getD s (at + k) 0 ∷ drop (at + suc k) s
+next s at k p = rw add-suc (drop-cons s (at + k) 0 p)
+
+pub four-list : (s : List ℕ) (at : ℕ) → at + 4 ≤ length s
+    → take 4 (drop at s) ≡ getD s at 0 ∷ getD s (at + 1) 0 ∷ getD s (at + 2) 0 ∷ getD s (at + 3) 0 ∷ []
+four-list s at p =
+    let e : drop at s ≡ getD s at 0 ∷ drop (at + 1) s = rw add-one (drop-cons s at 0 (omega arith)) in
+    rw (e, next s at 1 (omega arith), next s at 2 (omega arith), next s at 3 (omega arith))
+
 -- ---- what a list of bytes says
 value : List ℕ → ℕ
 value [] = 0
@@ -81,3 +92,10 @@ bytes-number w s at h p =
 
 pub number-bytes : (w : ℕ) (s : List ℕ) (at x : ℕ) → at + w ≤ length s → x < 256 ^ w → take w (drop at s) ≡ bytes w x → number w s at ≡ x
 number-bytes w s at x p q e = number-value w s at p ∙ ap value e ∙ value-bytes w x q
+
+pub number-small : (w : ℕ) (s : List ℕ) (at : ℕ) → Bytes s → at + w ≤ length s → number w s at < 256 ^ w
+number-small zero s at h p = omega arith
+number-small (suc w) s at h p =
+    let b = h at (omega arith) in
+    let y = number-small w s (at + 1) h (omega arith) in
+    omega arith

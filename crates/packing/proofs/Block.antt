@@ -11,33 +11,14 @@ use lib.ListN.{length, getD, take, drop, replicate, length-append, length-drop, 
 use lib.Seq.{drop-cons, take-add, take-all, drop-drop, length-take-le, take-at, drop-at}
 use lib.Dec.{eqb}
 use borrow.Author.Tests.{eqb-true, eq-eqb}
-use Rattle.numbers.specs.Numbers.{number, bytes, Bytes}
+use Rattle.numbers.specs.Numbers.{number, bytes, all-zero, Bytes}
 use Rattle.numbers.specs.Tests.{Between, and-both}
-use Rattle.numbers.proofs.Bytes.{bytes-number, number-bytes, length-bytes}
+use Rattle.numbers.proofs.Zeros.{zeros-are, zeros-pass}
+use Rattle.numbers.proofs.Bytes.{four-list, bytes-number, number-bytes, length-bytes}
 use Rattle.fnv.specs.Fnv.{hash, hash-from, step}
-use Rattle.blocks.specs.Block.{all-zero, part, mark, check-right}
+use Rattle.blocks.specs.Block.{part, mark, check-right}
 use Rattle.blocks.specs.Sound.{Header}
 use Rattle.packing.specs.Packed.{heading, slots, front, filled}
-
--- ---- zeros, and four bytes one by one
-zeros-are : (l : List ℕ) → all-zero l ≡ true → l ≡ replicate (length l) 0
-zeros-are [] e = refl
-zeros-are (b ∷ l) e =
-    let q = and-both (eqb b 0) (all-zero l) e in
-    rw (eqb-true b 0 (q .0)) (ap (λ (t : List ℕ). 0 ∷ t) (zeros-are l (q .1)))
-
-zeros-pass : (n : ℕ) → all-zero (replicate n 0) ≡ true
-zeros-pass zero = refl
-zeros-pass (suc n) = zeros-pass n
-
-next : (s : List ℕ) (at k : ℕ) → at + k < length s → drop (at + k) s ≡ getD s (at + k) 0 ∷ drop (at + suc k) s
-next s at k p = rw add-suc (drop-cons s (at + k) 0 p)
-
-four-list : (s : List ℕ) (at : ℕ) → at + 4 ≤ length s
-    → take 4 (drop at s) ≡ getD s at 0 ∷ getD s (at + 1) 0 ∷ getD s (at + 2) 0 ∷ getD s (at + 3) 0 ∷ []
-four-list s at p =
-    let e : drop at s ≡ getD s at 0 ∷ drop (at + 1) s = rw add-one (drop-cons s at 0 (omega arith)) in
-    rw (e, next s at 1 (omega arith), next s at 2 (omega arith), next s at 3 (omega arith))
 
 -- ---- lengths
 length-heading : (b : ℕ) (last : Bool) (n : ℕ) → length (heading b last n) ≡ 8

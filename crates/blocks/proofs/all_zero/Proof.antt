@@ -9,7 +9,7 @@ use lib.ListN.{length, getD, drop, drop-of-length-le}
 use lib.Seq.{drop-cons}
 use borrow.Author.Tests.{eq-eqb, ne-eqb}
 use borrow.Author.Needs.{needs}
-use Rattle.blocks.specs.Block.{all-zero}
+use Rattle.numbers.specs.Numbers.{all-zero}
 use Rattle.blocks.proofs.all_zero.Statement.{statement}
 use Rattle.blocks.proofs.all_zero.Tie as tie
 
