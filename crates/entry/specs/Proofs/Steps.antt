@@ -43,7 +43,7 @@ abbrev pub Sound : Entered → Type 0
 Sound nothing = Unit
 Sound (after E C) = All E Finished × Good E C × (suc (length E) ≤ 64)
 
-sound-step : (e : Entered) (r : Record) → Sound e → Keeps (asks e r) → Sound (enter e r)
+pub sound-step : (e : Entered) (r : Record) → Sound e → Keeps (asks e r) → Sound (enter e r)
 sound-step nothing wrong h n = absurd (n .0)
 sound-step nothing (component k d) h n = (λ c l. absurd (omega arith), new-good [] k d (n .0), omega arith)
 sound-step nothing (part x) h n = absurd (n .1 .0)
@@ -61,7 +61,7 @@ placed E C (invocation v) k = k .0
 placed E C (argument s) k = k .0
 placed E C (connection s) k = k .0
 
-records-step : (e : Entered) (r : Record) → Sound e → Keeps (asks e r) → records (said (enter e r)) ≡ records (said e) ++ (r ∷ [])
+pub records-step : (e : Entered) (r : Record) → Sound e → Keeps (asks e r) → records (said (enter e r)) ≡ records (said e) ++ (r ∷ [])
 unfolding records parts invocations add-last
 records-step nothing wrong h n = absurd (n .0)
 records-step nothing (component k d) h n = refl
