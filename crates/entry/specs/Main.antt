@@ -1,5 +1,5 @@
 -- The main page: what the verdict on a list of records says.
--- `Lawful` of timeline is the page of the rules: a design in range, whole, with not too many of a kind, that keeps rules 7 to 12. `Refusal` of Answers is the first record that breaks a rule.
+-- The rules have two forms: `Lawful` of timeline, of a whole design by the numbers of its parts; and `Breaks` of Answers, of a record after those before it.
 -- Assumes nothing.
 use Prim.Native.Nat.{ℕ, _<_}
 use mathlib.Core.Path.{_≡_, refl, sym, _∙_}
@@ -11,20 +11,25 @@ use Rattle.timeline.specs.Rules.{Whole, Lawful}
 use Rattle.entry.specs.Records.{Record, records}
 use Rattle.entry.specs.Numbers.{Standing}
 use Rattle.entry.specs.Entered.{design}
-use Rattle.entry.specs.Answers.{Answer, accepted, refused, Refusal, Answers}
+use Rattle.entry.specs.Answers.{Answer, accepted, refused, Breaks, Refusal, Answers}
 use Rattle.entry.specs.Verdict.{verdict}
 use Rattle.entry.specs.Cases.{Answered, cases, computed}
 use Rattle.entry.specs.Proofs.Standing.{standing}
-use Rattle.entry.specs.Proofs.Exactly.{design-of-whole, accepted-lawful, answer-exactly, answered}
+use Rattle.entry.specs.Proofs.Exactly.{design-of-whole, accepted-lawful, answer-exactly, unbroken-exactly, answered}
 
 module _ (rs : List Record) where
-  -- Accepted with c components and r records, exactly when it is the record list of a design that is in range, whole and keeps the rules, with so many components and records.
+  -- Accepted, exactly when it is the record list of a design that is in range, whole and keeps the rules; c and r are how many components and records there are.
   pub accepted-exactly : (c r : ℕ) → (verdict rs ≡ accepted c r) ↔ ((D : Design) × Lawful D × (records D ≡ rs) × (length D ≡ c) × (length rs ≡ r))
   accepted-exactly c r = answer-exactly rs (accepted c r)
 
-  -- Refused with n at p, exactly when no record before p breaks a rule and n is the lowest-numbered rule that record p breaks; the end of the list counts as a record that breaks 5 if something is missing.
+  -- Refused with n at p, exactly when no record before p breaks a rule and n is the lowest-numbered rule that record p breaks.
+  -- Where something is missing at the end of the list, p is the record count and n is 5.
   pub refused-exactly : (n p : ℕ) → (verdict rs ≡ refused n p) ↔ Refusal rs n p
   refused-exactly n p = answer-exactly rs (refused n p)
+
+  -- So the two forms of the rules agree: no record breaks one, exactly when it is the record list of a lawful design.
+  pub both-forms : ((p n : ℕ) → ¬ (Breaks rs p n)) ↔ ((D : Design) × Lawful D × (records D ≡ rs))
+  both-forms = unbroken-exactly rs
 
   -- The rules leave one answer, and the verdict is it.
   pub an-answer : Answers rs (verdict rs)

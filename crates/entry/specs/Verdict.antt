@@ -14,7 +14,7 @@ unfoldable pub first : (l : Asks) → Decided l → ℕ → Answer → Answer
 first [] d p k = k
 first (a ∷ rest) d p k = elim (d .0) [ yes h ↦ first rest (d .1) p k | no h ↦ refused (a .0) p ]
 
--- The records from number p on, after what has been entered.
+-- The records from number p on, after what has been entered. What follows a refused record stands under a `let` and is not computed.
 unfoldable pub judge : Entered → ℕ → List Record → Answer
 judge e p [] = first (ending e) (decide-end e) p (accepted (length (said e)) p)
 judge e p (r ∷ rs) = let k = judge (enter e r) (suc p) rs in first (asks e r) (decide e r) p k

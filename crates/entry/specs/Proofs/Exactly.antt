@@ -1,7 +1,7 @@
 -- The verdict gives the answer that the rules demand, and a record list and its design are each other's.
 -- Assumes nothing.
 use Prim.Native.Nat.{ℕ, _<_}
-use mathlib.Core.Path.{_≡_}
+use mathlib.Core.Path.{_≡_, refl}
 use mathlib.Core.List.{List, [], _∷_, map}
 use mathlib.Core.Logic.{_↔_}
 use lib.ListN.{length}
@@ -9,10 +9,10 @@ use Rattle.timeline.specs.Design.{Design, component, invocation-count}
 use Rattle.timeline.specs.Rules.{Whole, Lawful}
 use Rattle.entry.specs.Records.{Record, records}
 use Rattle.entry.specs.Entered.{design}
-use Rattle.entry.specs.Answers.{Answer, accepted, refused, Answers}
+use Rattle.entry.specs.Answers.{Answer, accepted, refused, Breaks, Answers}
 use Rattle.entry.specs.Verdict.{verdict}
 use Rattle.entry.specs.Cases.{Answered}
-use Rattle.entry.specs.Proofs.Refused.{refusal-exactly, accepted-unbroken, unbroken-accepted}
+use Rattle.entry.specs.Proofs.Refused.{refusal-exactly, accepted-unbroken, unbroken-accepted, accepted-nowhere}
 use Rattle.entry.specs.Proofs.Steps.{unbroken-finished}
 use Rattle.entry.specs.Proofs.Rebuilt.{design-records}
 use Rattle.entry.specs.Proofs.Accepted.{finished-unbroken}
@@ -39,6 +39,16 @@ answer-exactly rs (accepted c r) = (λ a. let h = accepted-lawful rs c r a in (d
     from : Answers rs (accepted c r) → verdict rs ≡ accepted c r
     from (D, h, e, f, g) = let u = rw e at (lawful-accepted D h) in cc
 answer-exactly rs (refused n p) = refusal-exactly rs n p
+
+pub unbroken-exactly : (rs : List Record) → ((p n : ℕ) → ¬ (Breaks rs p n)) ↔ ((D : Design) × Lawful D × (records D ≡ rs))
+unbroken-exactly rs = (λ h. to h (verdict rs) ((answer-exactly rs (verdict rs)) .0 refl), from)
+  where
+    to : ((p n : ℕ) → ¬ (Breaks rs p n)) → (a : Answer) → Answers rs a → (D : Design) × Lawful D × (records D ≡ rs)
+    to h (accepted c r) (D, l, e, _, _) = (D, l, e)
+    to h (refused n p) r = absurd (h p n (r .breaks))
+
+    from : (D : Design) × Lawful D × (records D ≡ rs) → (p n : ℕ) → ¬ (Breaks rs p n)
+    from (D, l, e) = accepted-nowhere rs (length D) (length rs) ((answer-exactly rs (accepted (length D) (length rs))) .1 (D, l, e, refl, refl))
 
 pub answered : (l : List (List Record × Answer)) → map (λ t. verdict (t .0)) l ≡ map (λ t. t .1) l → Answered l
 answered [] e = tt

@@ -9,7 +9,7 @@ use native.Mathlib.Omega.{arith}
 use Rattle.entry.specs.Records.{Record, wrong}
 use Rattle.entry.specs.Entered.{Entered, nothing, enter, enter-all, said, design}
 use Rattle.entry.specs.Asks.{asks, ending}
-use Rattle.entry.specs.Answers.{accepted, refused, Broken, Refusal}
+use Rattle.entry.specs.Answers.{accepted, refused, Broken, Breaks, Refusal}
 use Rattle.entry.specs.Verdict.{judge, verdict}
 use Rattle.entry.specs.Proofs.Good.{Keeps}
 use Rattle.entry.specs.Proofs.Lowest.{kept-unbroken}
@@ -121,3 +121,6 @@ module _ (rs : List Record) where
       go : Judged nothing 0 rs → judge nothing 0 rs ≡ accepted (length (said (enter-all nothing rs))) (length rs)
       go (goes v b) = let y : 0 + length rs ≡ length rs = omega arith in cc
       go (stops n p s b) = absurd (unbroken-nowhere nothing rs u p n ((stops-here n p s) .breaks))
+
+  pub accepted-nowhere : (c r : ℕ) → verdict rs ≡ accepted c r → (p n : ℕ) → ¬ (Breaks rs p n)
+  accepted-nowhere c r a = unbroken-nowhere nothing rs ((accepted-unbroken c r a) .0)
