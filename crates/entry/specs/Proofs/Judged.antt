@@ -26,7 +26,7 @@ unfolding first
 found b [] r d p k = kept tt refl
 found b (a ∷ l) r d p k = go (d .0) (found (a .0) l (r .1) (d .1) p k)
   where
-    go : (x : Dec (a .1)) → Found l p k (first l (d .1) p k) → Found (a ∷ l) p k (elim x [ yes y ↦ first l (d .1) p k | no y ↦ refused (a .0) p ])
+    go : (x : Dec (a .1)) → Found l p k (first l (d .1) p k) → Found (a ∷ l) p k (first (a ∷ l) (x, d .1) p k)
     go (yes y) (kept h e) = kept (y, h) e
     go (yes y) (broken n h e) = broken n (lowest-later a l n y h) e
     go (no y) f = broken (a .0) (lowest-here b a l r y) refl

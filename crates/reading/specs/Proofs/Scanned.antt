@@ -1,7 +1,7 @@
 -- A scan that follows gives the verdict; and where that is accepted, its last state fits all that has been entered.
 -- Assumes nothing.
 use Prim.Native.Nat.{ℕ}
-use mathlib.Core.Bool.{Bool, true, false, cond}
+use mathlib.Core.Bool.{Bool, true, false}
 use mathlib.Core.Path.{_≡_, refl, sym, ap, _∙_}
 use mathlib.Core.List.{List, [], _∷_, _++_, append-nil}
 use lib.ListN.{length}
@@ -24,7 +24,7 @@ first-tried [] (t ∷ ts) d p k k′ h f = absurd h
 first-tried (a ∷ l) [] d p k k′ h f = absurd h
 first-tried (a ∷ l) (t ∷ ts) d p k k′ h f = go (d .0) (t .1) (h .1) (λ y. first-tried l ts (d .1) p k k′ (h .2 y) (λ n. f (y, n)))
   where
-    go : (x : Dec (a .1)) (b : Bool) → Means b (a .1) → (a .1 → first l (d .1) p k ≡ tried ts p k′) → elim x [ yes y ↦ first l (d .1) p k | no y ↦ refused (a .0) p ] ≡ cond b (tried ts p k′) (refused (t .0) p)
+    go : (x : Dec (a .1)) (b : Bool) → Means b (a .1) → (a .1 → first l (d .1) p k ≡ tried ts p k′) → first (a ∷ l) (x, d .1) p k ≡ tried ((t .0, b) ∷ ts) p k′
     go (yes y) true m g = g y
     go (yes y) false m g = absurd (m .from y)
     go (no y) true m g = absurd (y (m .to tt))
