@@ -4,3 +4,4 @@ pub mod Lookup
 pub mod Small
 pub mod Main
 pub mod Writes
+pub mod Fits
