@@ -1,0 +1,45 @@
+-- Which rows a component has, how many, and where in the list each of them stands.
+-- Assumes nothing.
+use Prim.Native.Nat.{ℕ, zero, suc, _+_, _≤_, _<_}
+use mathlib.Core.Path.{_≡_}
+use Rattle.timeline.specs.Design.{Design, delay, input-count, output-count, invocation-count, instance, invoked, offset}
+use Rattle.entry.specs.Numbers.{argument-number, connection-number}
+use Rattle.timetable.specs.States.{states}
+use Rattle.timetable.specs.Rows.{Row, register, go, guard, out, first-state, last-state}
+
+module _ (D : Design) (c : ℕ) where
+  -- The row is one of component c, told by its numbers.
+  abbrev pub Row-of : Row → Type 0
+  Row-of (register d n) = (d ≡ delay D c) × (n ≡ states D c)
+  Row-of (go j n k) = (j < invocation-count D c) × (n ≡ instance D c j) × (k ≡ offset D c j)
+  Row-of (guard j i f l r) =
+      (j < invocation-count D c) × (i < input-count D (invoked D c j)) × (f ≡ first-state D c j i) × (l ≡ last-state D c j i)
+      × (r ≡ argument-number D c j i)
+  Row-of (out o r) = (o < output-count D c) × (r ≡ connection-number D c o)
+
+  -- Rows are numbered from 0. After the first one, each invocation has a row of its own and one for each input; then come the outputs.
+  unfoldable pub go-place : ℕ → ℕ
+  go-place zero = 1
+  go-place (suc j) = go-place j + 1 + input-count D (invoked D c j)
+
+  unfoldable pub guard-place : (j i : ℕ) → ℕ
+  guard-place j i = go-place j + 1 + i
+
+  unfoldable pub out-place : ℕ → ℕ
+  out-place o = go-place (invocation-count D c) + o
+
+  unfoldable pub row-count : ℕ
+  row-count = out-place (output-count D c)
+
+  abbrev pub place : Row → ℕ
+  place (register d n) = 0
+  place (go j n k) = go-place j
+  place (guard j i f l r) = guard-place j i
+  place (out o r) = out-place o
+
+-- The states that the row names are among n, and no guard is empty.
+abbrev pub Within : ℕ → Row → Type 0
+Within n (register d m) = m ≡ n
+Within n (go j m k) = k < n
+Within n (guard j i f l r) = (f ≤ l) × (l < n)
+Within n (out o r) = Unit

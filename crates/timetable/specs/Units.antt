@@ -1,0 +1,44 @@
+-- The hardware that the rows of every unit below a top say: which unit is started when, and what the wires between units carry.
+-- A unit is a path of instances, as in timeline's Wires. No use is named here, and neither an argument nor a connection but by its row.
+-- Assumes nothing.
+use Prim.Native.Nat.{ℕ, _+_}
+use mathlib.Core.Path.{_≡_}
+use mathlib.Core.List.{List, [], _∷_}
+use Rattle.timeline.specs.Design.{Design, Source, own, output-of, constant, leaf, built, class}
+use Rattle.timeline.specs.Uses.{Path-of, unit, after}
+use Rattle.timeline.specs.Wires.{Pin, constant-pin, input-pin, output-pin, component-of}
+use Rattle.entry.specs.Records.{Record}
+use Rattle.timetable.specs.Lists.{Has}
+use Rattle.timetable.specs.Rows.{Row, go, rows}
+use Rattle.timetable.specs.Drives.{Rows-drive, Rows-start, Rows-connect}
+
+module _ (D : Design) (top : ℕ) (S : ℕ → Type 0) where
+  -- The rows of the unit u are those of its component.
+  abbrev pub unit-rows : List ℕ → List Row
+  unit-rows u = rows D (component-of D top u)
+
+  -- In cycle x the unit u is started: the top by its starts, any other unit by the rows of the unit around it.
+  abbrev pub Rows-begin : List ℕ → ℕ → Type 0
+  Rows-begin [] x = S x
+  Rows-begin (n ∷ u) x = (j : ℕ) × (t : ℕ) × Rows-start (unit-rows u) (Rows-begin u) x n j t
+
+  -- In cycle x the unit u is started by a use of it: what demand 3 speaks of.
+  pub record Use-begins (u : List ℕ) (x : ℕ) : Type 0 where
+    pub start : ℕ
+    pub started : S start
+    pub path : List ℕ
+    pub is-path : Path-of D top path
+    pub unit-is : unit D top path ≡ u
+    pub when : start + after D top path ≡ x
+
+  module _ (rs : List Record) (x : ℕ) where
+    -- In cycle x source s of unit u carries what pin w does: an output that of the instance which the invocation's row names, an own input that of a source which the rows around the unit drive it with.
+    pub data Rows-carry : List ℕ → Source → Pin → Type 0 where
+      by-constant : {u : List ℕ} {v : ℕ} → Rows-carry u (constant v) (constant-pin v)
+      by-top : {i : ℕ} → Rows-carry [] (own i) (input-pin i)
+      by-leaf : {u : List ℕ} {j o : ℕ} (n k : ℕ) → Has (unit-rows u) (go j n k) → class D (component-of D top (n ∷ u)) ≡ leaf
+          → Rows-carry u (output-of j o) (output-pin (n ∷ u) o)
+      by-connection : {u : List ℕ} {j o : ℕ} {w : Pin} (n k r : ℕ) (s : Source) → Has (unit-rows u) (go j n k) → class D (component-of D top (n ∷ u)) ≡ built
+          → Rows-connect (unit-rows (n ∷ u)) rs o s r → Rows-carry (n ∷ u) s w → Rows-carry u (output-of j o) w
+      by-argument : {u : List ℕ} {n i : ℕ} {w : Pin} (r j t : ℕ) (s : Source) → Rows-drive (unit-rows u) rs (Rows-begin u) x n i s r j t
+          → Rows-carry u s w → Rows-carry (n ∷ u) (own i) w
