@@ -11,3 +11,4 @@ pub mod Register
 pub mod Drives
 pub mod Units
 pub mod Proofs
+pub mod Main

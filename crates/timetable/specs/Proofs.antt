@@ -7,3 +7,8 @@ pub mod Rows
 pub mod States
 pub mod Right
 pub mod One
+pub mod Register
+pub mod Sizes
+pub mod Bytes
+pub mod Begun
+pub mod Carried
