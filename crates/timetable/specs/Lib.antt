@@ -12,3 +12,5 @@ pub mod Drives
 pub mod Units
 pub mod Proofs
 pub mod Main
+pub mod Squaring
+pub mod Laws

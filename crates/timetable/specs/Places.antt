@@ -2,20 +2,16 @@
 -- Assumes nothing.
 use Prim.Native.Nat.{ℕ, zero, suc, _+_, _≤_, _<_}
 use mathlib.Core.Path.{_≡_}
-use Rattle.timeline.specs.Design.{Design, delay, input-count, output-count, invocation-count, instance, invoked, offset}
-use Rattle.entry.specs.Numbers.{argument-number, connection-number}
-use Rattle.timetable.specs.States.{states}
-use Rattle.timetable.specs.Rows.{Row, register, go, guard, out, first-state, last-state}
+use Rattle.timeline.specs.Design.{Design, input-count, output-count, invocation-count, invoked}
+use Rattle.timetable.specs.Rows.{Row, register, go, guard, out, register-row, go-row, guard-row, out-row}
 
 module _ (D : Design) (c : ℕ) where
-  -- The row is one of component c, told by its numbers.
+  -- The row is one of component c.
   abbrev pub Row-of : Row → Type 0
-  Row-of (register d n) = (d ≡ delay D c) × (n ≡ states D c)
-  Row-of (go j n k) = (j < invocation-count D c) × (n ≡ instance D c j) × (k ≡ offset D c j)
-  Row-of (guard j i f l r) =
-      (j < invocation-count D c) × (i < input-count D (invoked D c j)) × (f ≡ first-state D c j i) × (l ≡ last-state D c j i)
-      × (r ≡ argument-number D c j i)
-  Row-of (out o r) = (o < output-count D c) × (r ≡ connection-number D c o)
+  Row-of (register d n) = register d n ≡ register-row D c
+  Row-of (go j n k) = (j < invocation-count D c) × (go j n k ≡ go-row D c j)
+  Row-of (guard j i f l r) = (j < invocation-count D c) × (i < input-count D (invoked D c j)) × (guard j i f l r ≡ guard-row D c j i)
+  Row-of (out o r) = (o < output-count D c) × (out o r ≡ out-row D c o)
 
   -- Rows are numbered from 0. After the first one, each invocation has a row of its own and one for each input; then come the outputs.
   unfoldable pub go-place : ℕ → ℕ

@@ -31,19 +31,26 @@ module _ (D : Design) (c : ℕ) where
   unfoldable pub last-state : (j i : ℕ) → ℕ
   last-state j i = (offset D c j + (input D (invoked D c j) i) .end) - 1
 
+  -- The rows one by one: of the component, of invocation j, of its input i, of own output o.
+  unfoldable pub register-row : Row
+  register-row = register (delay D c) (states D c)
+
+  unfoldable pub go-row : ℕ → Row
+  go-row j = go j (instance D c j) (offset D c j)
+
   unfoldable pub guard-row : (j i : ℕ) → Row
   guard-row j i = guard j i (first-state j i) (last-state j i) (argument-number D c j i)
 
   unfoldable pub out-row : ℕ → Row
   out-row o = out o (connection-number D c o)
 
-  -- "For each invocation (2, invocation, instance, k), then for each input (3, ..)": the rows of invocation j.
+  -- "For each invocation (2, ..), then for each input (3, ..)."
   unfoldable pub invocation-rows : ℕ → List Row
-  invocation-rows j = go j (instance D c j) (offset D c j) ∷ list-below (input-count D (invoked D c j)) (guard-row j)
+  invocation-rows j = go-row j ∷ list-below (input-count D (invoked D c j)) (guard-row j)
 
   -- The rows before those of invocation j.
   unfoldable pub rows-before : ℕ → List Row
-  rows-before j = register (delay D c) (states D c) ∷ join-below j invocation-rows
+  rows-before j = register-row ∷ join-below j invocation-rows
 
   -- "Last, for each own output (4, ..)."
   unfoldable pub rows : List Row

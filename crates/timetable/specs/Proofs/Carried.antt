@@ -16,7 +16,7 @@ use Rattle.entry.specs.Records.{Record}
 use Rattle.entry.specs.Numbers.{argument-number, connection-number, Standing}
 use Rattle.timetable.specs.Lists.{Has}
 use Rattle.timetable.specs.Table.{Table-drives, Table-connects}
-use Rattle.timetable.specs.Rows.{go, rows}
+use Rattle.timetable.specs.Rows.{go, go-row, rows}
 use Rattle.timetable.specs.Drives.{Rows-drive, Rows-connect}
 use Rattle.timetable.specs.Units.{unit-rows, Unit-there, Source-there, Rows-begin, Use-begins, Rows-carry, by-constant, by-top, by-leaf, by-connection, by-argument}
 use Rattle.timetable.specs.Proofs.Rows.{rows-are}
@@ -27,6 +27,15 @@ there-more : (D : Design) (c n m : ℕ) (s : Source) → n ≤ m → There D c n
 there-more D c n m (own i) l h = h
 there-more D c n m (output-of j o) l h = (omega (arith, h .0), h .1, h .2)
 there-more D c n m (constant v) l h = tt
+
+-- The instance that a go row names is the invocation's.
+go-names : (D : Design) (c j n k : ℕ) → Has (rows D c) (go j n k) → (j < invocation-count D c) × (n ≡ instance D c j)
+unfolding go-row
+go-names D c j n k g = let e = (rows-are D c (go j n k)) .0 g in (e .0, cc (e .1))
+
+names-go : (D : Design) (c j : ℕ) → j < invocation-count D c → Has (rows D c) (go j (instance D c j) (offset D c j))
+unfolding go-row
+names-go D c j l = (rows-are D c (go j (instance D c j) (offset D c j))) .1 (l, refl)
 
 module _ (D : Design) (top : ℕ) where
   -- The unit around is of the component around.
@@ -88,10 +97,10 @@ module _ {D : Design} {top : ℕ} (h : Placed D top) (S : ℕ → Type 0) (rs : 
   to-wires by-constant p = Wires.by-constant
   to-wires by-top p = Wires.by-top
   to-wires (by-leaf {u = u} {j = j} {o = o} n k g c) p =
-      let e = (rows-are D (component-of D top u) (go j n k)) .0 g in
+      let e = go-names D (component-of D top u) j n k g in
       rw (e .1) (Wires.by-leaf {u = u} {j = j} {o = o} (rw (e .1) at c))
   to-wires (by-connection {u = u} {j = j} {o = o} {w = w} n k r s g c d m) p =
-      let e = (rows-are D (component-of D top u) (go j n k)) .0 g in
+      let e = go-names D (component-of D top u) j n k g in
       let q : Unit-there D top (n ∷ u) = rw (e .1) (invoked-there u j p (e .0)) in
       let f = (connects (n ∷ u) q c o s r) .0 d in
       let v = to-wires m q in
@@ -105,7 +114,7 @@ module _ {D : Design} {top : ℕ} (h : Placed D top) (S : ℕ → Type 0) (rs : 
   to-rows Wires.by-constant p a = by-constant
   to-rows Wires.by-top p a = by-top
   to-rows (Wires.by-leaf {u = u} {j = j} {o = o} c) p a =
-      by-leaf (instance D (component-of D top u) j) (offset D (component-of D top u) j) ((rows-are D (component-of D top u) (go j _ _)) .1 (a .1, refl, refl)) c
+      by-leaf (instance D (component-of D top u) j) (offset D (component-of D top u) j) (names-go D (component-of D top u) j (a .1)) c
   to-rows (Wires.by-connection {u = u} {j = j} {o = o} {w = w} c m) p a =
       let v = invoked-unit D top u j in
       let q = invoked-there u j p (a .1) in
@@ -113,7 +122,7 @@ module _ {D : Design} {top : ℕ} (h : Placed D top) (S : ℕ → Type 0) (rs : 
       let s = connection D (component-of D top v) o in
       let r = connection-number D (component-of D top v) o in
       by-connection (instance D (component-of D top u) j) (offset D (component-of D top u) j) r s
-      ((rows-are D (component-of D top u) (go j _ _)) .1 (a .1, refl, refl)) c
+      (names-go D (component-of D top u) j (a .1)) c
       ((connects v q c o s r) .1 (record { output-there = a .2; source-is = refl; record-is = refl }))
       (to-rows m q ((rules v q) .references .connection-there o (omega (arith, a .2))))
   to-rows (Wires.by-argument {n = n} {u = u} {i = i} {w = w} t j p s v e y m) q a =

@@ -15,7 +15,7 @@ use Rattle.entry.specs.Numbers.{argument-number, connection-number, Standing}
 use Rattle.timetable.specs.Lists.{Has}
 use Rattle.timetable.specs.Table.{Table-drives, Table-starts, Table-connects}
 use Rattle.timetable.specs.States.{states}
-use Rattle.timetable.specs.Rows.{Row, register, go, guard, out, first-state, last-state, rows}
+use Rattle.timetable.specs.Rows.{Row, register, go, guard, out, first-state, last-state, register-row, go-row, guard-row, out-row, rows}
 use Rattle.timetable.specs.Places.{Row-of}
 use Rattle.timetable.specs.Drives.{State-active, Rows-drive, Rows-start, Rows-connect}
 use Rattle.timetable.specs.Proofs.Rows.{rows-are}
@@ -40,7 +40,7 @@ pub record Wanted (D : Design) (c j i r q : ℕ) : Type 0 where
 pub record Right (D : Design) (c : ℕ) (l : List Row) : Type 0 where
   pub delay-said : ℕ
   pub states-said : ℕ
-  pub register-row : Has l (register delay-said states-said)
+  pub register-said : Has l (register delay-said states-said)
   pub enough : states D c ≤ states-said
   pub goes : (j n k : ℕ) → Has l (go j n k) ↔ Row-of D c (go j n k)
   pub guards : (j i r q : ℕ) → Guarded l j i r q ↔ Wanted D c j i r q
@@ -55,34 +55,37 @@ module _ {D : Design} {c : ℕ} (h : Placed D c) where
 
   -- From k+s to k+e−1 is from k+s to before k+e, where the interval is not empty.
   wanted : (j i r q : ℕ) → Guarded (rows D c) j i r q → Wanted D c j i r q
-  unfolding first-state last-state
+  unfolding guard-row first-state last-state
   wanted j i r q g =
       let a = (rows-are D c (guard j i (g .first) (g .last) r)) .0 (g .guard-row) in
       let b = (input-range j i (a .0) (a .1)) .some in
+      let f : g .first ≡ first-state D c j i = cc (a .2) in
+      let l : g .last ≡ last-state D c j i = cc (a .2) in
       record {
         invocation-there = a .0;
         input-there = a .1;
-        record-is = a .4;
-        during = record { from = omega (arith, g .from, a .2); upto = omega (arith, g .upto, a .3) };
+        record-is = cc (a .2);
+        during = record { from = omega (arith, g .from); upto = omega (arith, g .upto) };
       }
 
   guarded : (j i r q : ℕ) → Wanted D c j i r q → Guarded (rows D c) j i r q
-  unfolding first-state last-state
+  unfolding guard-row first-state last-state
   guarded j i r q w =
       record {
         first = first-state D c j i;
         last = last-state D c j i;
-        guard-row = (rows-are D c (guard j i _ _ r)) .1 (w .invocation-there, w .input-there, refl, refl, w .record-is);
+        guard-row = (rows-are D c (guard j i _ _ r)) .1 (w .invocation-there, w .input-there, cc (w .record-is));
         from = omega (arith, w .during);
         upto = omega (arith, w .during);
       }
 
   pub rows-right : Right D c (rows D c)
+  unfolding register-row
   rows-right =
       record {
         delay-said = delay D c;
         states-said = states D c;
-        register-row = (rows-are D c (register (delay D c) (states D c))) .1 (refl, refl);
+        register-said = (rows-are D c (register (delay D c) (states D c))) .1 refl;
         enough = omega arith;
         goes = λ j n k. rows-are D c (go j n k);
         guards = λ j i r q. (wanted j i r q, guarded j i r q);
@@ -96,7 +99,7 @@ module _ {D : Design} {c : ℕ} (h : Placed D c) where
         record {
           delay = right .delay-said;
           states = right .states-said;
-          row = right .register-row;
+          row = right .register-said;
           active = record { below = omega (arith, right .enough); started = s; before = e };
         }
 
@@ -105,6 +108,7 @@ module _ {D : Design} {c : ℕ} (h : Placed D c) where
       read-argument b k e = rw e ((standing .argument-at j b i (omega (arith, whole .all-arguments j b))) .is wrong)
 
       to-table : Rows-drive l rs S x n i s r j t → Table-drives D c S x n i s r j t
+      unfolding go-row
       to-table d =
           let w = (right .guards j i r (d .state)) .0 (record { first = d .first; last = d .last; guard-row = d .guard-row; from = d .from; upto = d .upto }) in
           let g = (right .goes j n (d .begin)) .0 (d .go-row) in
@@ -114,7 +118,7 @@ module _ {D : Design} {c : ℕ} (h : Placed D c) where
           record {
             started = d .active .active .started;
             invocation-there = w .invocation-there;
-            instance-is = g .1;
+            instance-is = cc (g .1);
             input-there = w .input-there;
             during = record { from = omega (arith, w .during); upto = omega (arith, w .during) };
             source-is = cc;
@@ -122,6 +126,7 @@ module _ {D : Design} {c : ℕ} (h : Placed D c) where
           }
 
       to-rows : Table-drives D c S x n i s r j t → Rows-drive l rs S x n i s r j t
+      unfolding go-row
       to-rows d =
           let a = (states-cover D c) .inputs j (d .invocation-there) i (d .input-there) in
           let m = read-argument (d .invocation-there) (d .input-there) (d .record-is) in
@@ -141,7 +146,7 @@ module _ {D : Design} {c : ℕ} (h : Placed D c) where
             guard-row = g .guard-row;
             from = g .from;
             upto = g .upto;
-            go-row = (right .goes j n (offset D c j)) .1 (d .invocation-there, d .instance-is, refl);
+            go-row = (right .goes j n (offset D c j)) .1 (d .invocation-there, cc (d .instance-is));
             read = rw (d .source-is) m;
           }
 
@@ -149,36 +154,40 @@ module _ {D : Design} {c : ℕ} (h : Placed D c) where
       drives-exactly = (to-table, to-rows)
 
     pub starts-exactly : (x n j t : ℕ) → Rows-start l S x n j t ↔ Table-starts D c S x n j t
+    unfolding go-row
     starts-exactly x n j t = (
       λ d.
           let g = (right .goes j n (d .state)) .0 (d .go-row) in
+          let k : d .state ≡ offset D c j = cc (g .1) in
           record {
             started = d .active .active .started;
             invocation-there = g .0;
-            instance-is = g .1;
-            when = omega (arith, d .active .active .before, g .2);
+            instance-is = cc (g .1);
+            when = omega (arith, d .active .active .before);
           },
       λ d.
           let a = (states-cover D c) .starts j (d .invocation-there) in
           record {
             state = offset D c j;
             active = active x (offset D c j) t (d .started) (d .when) (omega arith);
-            go-row = (right .goes j n (offset D c j)) .1 (d .invocation-there, d .instance-is, refl);
+            go-row = (right .goes j n (offset D c j)) .1 (d .invocation-there, cc (d .instance-is));
           },
     )
 
   -- Of a built component every own output has a connection.
   pub connects-exactly : (l : List Row) → Right D c l → (rs : List Record) → Standing D c rs → class D c ≡ built → (o : ℕ) (s : Source) (r : ℕ)
       → Rows-connect l rs o s r ↔ Table-connects D c o s r
+  unfolding out-row
   connects-exactly l right rs standing is-built o s r = (
     λ d.
         let a = (right .outs o r) .0 (d .out-row) in
-        let m = read-connection (a .0) (a .1) in
+        let e : r ≡ connection-number D c o = cc (a .1) in
+        let m = read-connection (a .0) e in
         let q : part (Records.connection s) ≡ part (Records.connection (connection D c o)) = cc (d .read, m) in
-        record { output-there = a .0; source-is = cc; record-is = a .1 },
+        record { output-there = a .0; source-is = cc; record-is = e },
     λ d.
         let m = read-connection (d .output-there) (d .record-is) in
-        record { out-row = (right .outs o r) .1 (d .output-there, d .record-is); read = rw (d .source-is) m },
+        record { out-row = (right .outs o r) .1 (d .output-there, cc (d .record-is)); read = rw (d .source-is) m },
   )
     where
       read-connection : o < output-count D c → r ≡ connection-number D c o → getD rs r wrong ≡ part (Records.connection (connection D c o))

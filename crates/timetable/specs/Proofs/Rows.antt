@@ -7,33 +7,29 @@ use mathlib.Core.Logic.{⊎-elim, _↔_}
 use lib.ListN.{length, getD, length-append}
 use lib.Seq.{ext-getD}
 use native.Mathlib.Omega.{arith}
-use Rattle.timeline.specs.Design.{Design, delay, input-count, output-count, invocation-count, instance, invoked, offset}
+use Rattle.timeline.specs.Design.{Design, input-count, output-count, invocation-count, invoked}
 use Rattle.timeline.specs.Flat.{join-below}
 use Rattle.timetable.specs.Lists.{Has, list-below}
-use Rattle.timetable.specs.States.{states}
-use Rattle.timetable.specs.Rows.{Row, register, go, guard, out, guard-row, out-row, invocation-rows, rows-before, rows}
+use Rattle.timetable.specs.Rows.{Row, register, go, guard, out, register-row, go-row, guard-row, out-row, invocation-rows, rows-before, rows}
 use Rattle.timetable.specs.Places.{Row-of, go-place, guard-place, out-place, row-count, place}
 use Rattle.timetable.specs.Proofs.Lists.{in-join, to-join, in-list, to-list, length-list, has-at}
 use Rattle.timetable.specs.Proofs.Placed.{Placed, placed-append, placed-list, placed-at, placed-there}
 
 module _ (D : Design) (c : ℕ) where
   in-rows : (r : Row) → Has (rows D c) r → Row-of D c r
-  unfolding rows rows-before invocation-rows guard-row out-row
-  in-rows r m = ⊎-elim before after (List·Memᴰ·append-cases (rows-before D c (invocation-count D c)) m)
+  unfolding rows rows-before invocation-rows register-row go-row guard-row out-row
+  in-rows r m = ⊎-elim (λ e. rw e refl) (λ k. ⊎-elim called connected (List·Memᴰ·append-cases (join-below (invocation-count D c) (invocation-rows D c)) k)) (List·Memᴰ·cases-cons m)
     where
-      before : Has (rows-before D c (invocation-count D c)) r → Row-of D c r
-      before h = ⊎-elim (λ e. rw e (refl, refl)) called (List·Memᴰ·cases-cons h)
-        where
-          called : Has (join-below (invocation-count D c) (invocation-rows D c)) r → Row-of D c r
-          called k =
-              let q = in-join (invocation-count D c) (invocation-rows D c) k in
-              ⊎-elim
-              (λ e. rw e (q .1, refl, refl))
-              (λ g. let p = in-list (input-count D (invoked D c (q .0))) (guard-row D c (q .0)) g in rw (p .2) (q .1, p .1, refl, refl, refl))
-              (List·Memᴰ·cases-cons (q .2))
+      called : Has (join-below (invocation-count D c) (invocation-rows D c)) r → Row-of D c r
+      called k =
+          let q = in-join (invocation-count D c) (invocation-rows D c) k in
+          ⊎-elim
+          (λ e. rw e (q .1, refl))
+          (λ g. let p = in-list (input-count D (invoked D c (q .0))) (guard-row D c (q .0)) g in rw (p .2) (q .1, p .1, refl))
+          (List·Memᴰ·cases-cons (q .2))
 
-      after : Has (list-below (output-count D c) (out-row D c)) r → Row-of D c r
-      after h = let q = in-list (output-count D c) (out-row D c) h in rw (q .2) (q .1, refl)
+      connected : Has (list-below (output-count D c) (out-row D c)) r → Row-of D c r
+      connected k = let q = in-list (output-count D c) (out-row D c) k in rw (q .2) (q .1, refl)
 
   of-invocation : (j : ℕ) (r : Row) → j < invocation-count D c → Has (invocation-rows D c j) r → Has (rows D c) r
   unfolding rows rows-before
@@ -41,29 +37,27 @@ module _ (D : Design) (c : ℕ) where
       Memᴰ·append-left (list-below (output-count D c) (out-row D c)) (List·Memᴰ·tail (to-join (invocation-count D c) (invocation-rows D c) j l m))
 
   to-rows : (r : Row) → Row-of D c r → Has (rows D c) r
-  unfolding rows rows-before invocation-rows guard-row out-row
-  to-rows (register d n) h =
-      let e : register d n ≡ register (delay D c) (states D c) = cc (h .0, h .1) in
-      List·Memᴰ·head e
-  to-rows (go j n k) h =
-      let e : go j n k ≡ go j (instance D c j) (offset D c j) = cc (h .1, h .2) in
-      of-invocation j (go j n k) (h .0) (List·Memᴰ·head e)
+  unfolding rows rows-before invocation-rows
+  to-rows (register d n) e = List·Memᴰ·head e
+  to-rows (go j n k) h = of-invocation j (go j n k) (h .0) (List·Memᴰ·head (h .1))
   to-rows (guard j i f l r) h =
-      of-invocation j (guard j i f l r) (h .0)
-      (List·Memᴰ·tail (to-list (input-count D (invoked D c j)) (guard-row D c j) i (h .1) (cc (h .2, h .3, h .4))))
-  to-rows (out o r) h =
-      Memᴰ·append-right (rows-before D c (invocation-count D c)) (to-list (output-count D c) (out-row D c) o (h .0) (cc (h .1)))
+      of-invocation j (guard j i f l r) (h .0) (List·Memᴰ·tail (to-list (input-count D (invoked D c j)) (guard-row D c j) i (h .1) (h .2)))
+  to-rows (out o r) h = Memᴰ·append-right (rows-before D c (invocation-count D c)) (to-list (output-count D c) (out-row D c) o (h .0) (h .1))
 
   -- The rows are these and no others.
   pub rows-are : (r : Row) → Has (rows D c) r ↔ Row-of D c r
   rows-are r = (in-rows r, to-rows r)
 
-  -- The rows of the invocations joined: what a writer has written before invocation j, it adds the rows of invocation j to.
+  -- The rows grow invocation by invocation, and last by the outputs.
   pub rows-next : (j : ℕ) → rows-before D c (suc j) ≡ rows-before D c j ++ invocation-rows D c j
   unfolding rows-before
   rows-next j = refl
 
-  length-invocation : (j : ℕ) → length (invocation-rows D c j) ≡ suc (input-count D (invoked D c j))
+  pub rows-last : rows D c ≡ rows-before D c (invocation-count D c) ++ list-below (output-count D c) (out-row D c)
+  unfolding rows
+  rows-last = refl
+
+  pub length-invocation : (j : ℕ) → length (invocation-rows D c j) ≡ suc (input-count D (invoked D c j))
   unfolding invocation-rows
   length-invocation j = ap suc (length-list (input-count D (invoked D c j)) (guard-row D c j))
 
@@ -85,12 +79,12 @@ module _ (D : Design) (c : ℕ) where
       omega arith
 
   placed-invocation : (j : ℕ) → Placed (place D c) (go-place D c j) (invocation-rows D c j)
-  unfolding invocation-rows guard-row guard-place
+  unfolding invocation-rows go-row guard-row guard-place
   placed-invocation j =
       (refl, placed-list (place D c) (suc (go-place D c j)) (input-count D (invoked D c j)) (guard-row D c j) (λ i. omega arith))
 
   placed-before : (j : ℕ) → Placed (place D c) 0 (rows-before D c j)
-  unfolding rows-before
+  unfolding rows-before register-row
   placed-before zero = (refl, tt)
   placed-before (suc j) =
       placed-append (place D c) 0 (go-place D c j) (rows-before D c j) (invocation-rows D c j) (placed-before j)

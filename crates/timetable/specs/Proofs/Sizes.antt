@@ -6,14 +6,14 @@ use mathlib.Core.List.{List, [], _∷_, List·Memᴰ·not-nil, List·Memᴰ·cas
 use mathlib.Core.Logic.{⊎-elim}
 use lib.ListN.{length}
 use native.Mathlib.Omega.{arith}
-use Rattle.timeline.specs.Design.{Design, built, class, input-count, output-count, invocation-count, invoked, gives}
+use Rattle.timeline.specs.Design.{Design, built, class, delay, input-count, output-count, invocation-count, instance, invoked, offset, gives}
 use Rattle.timeline.specs.Rules.{Port-range, Ranges, Whole, Counts}
 use Rattle.timeline.specs.Proofs.Down.{Placed, use-there, use-ranges}
 use Rattle.entry.specs.Records.{Record}
-use Rattle.entry.specs.Numbers.{Standing}
+use Rattle.entry.specs.Numbers.{argument-number, connection-number, Standing}
 use Rattle.timetable.specs.Lists.{Has}
 use Rattle.timetable.specs.States.{states}
-use Rattle.timetable.specs.Rows.{Row, register, go, guard, out, numbers, first-state, last-state, rows}
+use Rattle.timetable.specs.Rows.{Row, register, go, guard, out, numbers, first-state, last-state, register-row, go-row, guard-row, out-row, rows}
 use Rattle.timetable.specs.Places.{Row-of, Within, go-place, out-place, row-count}
 use Rattle.timetable.specs.Bytes.{Fits}
 use Rattle.timetable.specs.Proofs.Rows.{rows-are}
@@ -44,13 +44,18 @@ module _ {D : Design} {c : ℕ} (h : Placed D c) where
       })
 
   pub within : (r : Row) → Row-of D c r → Within (states D c) r
-  unfolding first-state last-state
-  within (register d n) m = m .1
-  within (go j n k) m = let a = (states-cover D c) .starts j (m .0) in omega (arith, m .2)
+  unfolding register-row go-row guard-row first-state last-state
+  within (register d n) e = cc (e)
+  within (go j n k) m =
+      let a = (states-cover D c) .starts j (m .0) in
+      let e : k ≡ offset D c j = cc (m .1) in
+      omega arith
   within (guard j i f l r) m =
       let a = (states-cover D c) .inputs j (m .0) i (m .1) in
       let b = (input-range h j i (m .0) (m .1)) .some in
-      (omega (arith, m .2, m .3), omega (arith, m .3))
+      let d : f ≡ first-state D c j i = cc (m .2) in
+      let e : l ≡ last-state D c j i = cc (m .2) in
+      (omega arith, omega arith)
   within (out o r) m = tt
 
   -- A row for each of at most 64 invocations, and for each of its at most 16 inputs.
@@ -84,26 +89,30 @@ module _ {D : Design} {c : ℕ} (h : Placed D c) (is-built : class D c ≡ built
   whole = h .lawful .whole c (h .there)
 
   fits-of : (r : Row) → Row-of D c r → Within (states D c) r → Fits r
-  unfolding numbers
-  fits-of (register d n) m w =
+  unfolding numbers register-row go-row guard-row out-row
+  fits-of (register d n) q w =
       let a = (ranges h) .delay-most in
       let b = states-most h in
-      eight-fit _ _ _ _ _ _ _ _ (omega arith) (omega (arith, m .0)) (omega (arith, m .1)) (omega arith) (omega arith) (omega arith) (omega arith) (omega arith)
+      let e : d ≡ delay D c = cc (q) in
+      eight-fit _ _ _ _ _ _ _ _ (omega arith) (omega arith) (omega arith) (omega arith) (omega arith) (omega arith) (omega arith) (omega arith)
   fits-of (go j n k) m w =
       let a = (counts h) .few-invocations in
       let b = states-most h in
       let d = ((ranges h) .invocation-range j (m .0)) .0 in
-      eight-fit _ _ _ _ _ _ _ _ (omega arith) (omega (arith, m .0)) (omega (arith, m .1)) (omega arith) (omega arith) (omega arith) (omega arith) (omega arith)
+      let e : n ≡ instance D c j = cc (m .1) in
+      eight-fit _ _ _ _ _ _ _ _ (omega arith) (omega (arith, m .0)) (omega arith) (omega arith) (omega arith) (omega arith) (omega arith) (omega arith)
   fits-of (guard j i f l r) m w =
       let a = (counts h) .few-invocations in
       let b = states-most h in
       let d = (invoked-counts h j (m .0)) .few-inputs in
-      let e = (standing .argument-at j (m .0) i (omega (arith, m .1, whole .all-arguments j (m .0)))) .below in
-      eight-fit _ _ _ _ _ _ _ _ (omega arith) (omega (arith, m .0)) (omega (arith, m .1)) (omega (arith, w .0, w .1)) (omega (arith, w .1)) (omega (arith, m .4)) (omega arith) (omega arith)
+      let e : r ≡ argument-number D c j i = cc (m .2) in
+      let p = (standing .argument-at j (m .0) i (omega (arith, m .1, whole .all-arguments j (m .0)))) .below in
+      eight-fit _ _ _ _ _ _ _ _ (omega arith) (omega (arith, m .0)) (omega (arith, m .1)) (omega (arith, w .0, w .1)) (omega (arith, w .1)) (omega arith) (omega arith) (omega arith)
   fits-of (out o r) m w =
       let a = (counts h) .few-outputs in
-      let e = (standing .connection-at o (omega (arith, m .0, whole .all-connections is-built))) .below in
-      eight-fit _ _ _ _ _ _ _ _ (omega arith) (omega (arith, m .0)) (omega (arith, m .1)) (omega arith) (omega arith) (omega arith) (omega arith) (omega arith)
+      let e : r ≡ connection-number D c o = cc (m .1) in
+      let p = (standing .connection-at o (omega (arith, m .0, whole .all-connections is-built))) .below in
+      eight-fit _ _ _ _ _ _ _ _ (omega arith) (omega (arith, m .0)) (omega arith) (omega arith) (omega arith) (omega arith) (omega arith) (omega arith)
 
   pub rows-fit : (r : Row) → Has (rows D c) r → Fits r
   rows-fit r m = let k = (rows-are D c r) .0 m in fits-of r k (within h r k)
