@@ -16,6 +16,18 @@ use Rattle.timetable.specs.Proofs.Lists.{in-join, to-join, in-list, to-l
 use Rattle.timetable.specs.Proofs.Placed.{Placed, placed-append, placed-list, placed-at, placed-there}
 
 module _ (D : Design) (c : ℕ) where
+  of-invocation : (j : ℕ) (r : Row) → j < invocation-count D c → Has (invocation-rows D c j) r → Has (rows D c) r
+  unfolding rows rows-before
+  of-invocation j r l m = List·Memᴰ·tail (Memᴰ·append-left _ (to-join (invocation-count D c) (invocation-rows D c) j l m))
+
+  to-rows : (r : Row) → Row-of D c r → Has (rows D c) r
+  unfolding rows rows-before invocation-rows
+  to-rows (register d n) e = List·Memᴰ·head e
+  to-rows (go j n k) h = of-invocation j (go j n k) (h .0) (List·Memᴰ·head (h .1))
+  to-rows (guard j i f l r) h =
+      of-invocation j (guard j i f l r) (h .0) (List·Memᴰ·tail (to-list (input-count D (invoked D c j)) (guard-row D c j) i (h .1) (h .2)))
+  to-rows (out o r) h = Memᴰ·append-right (rows-before D c (invocation-count D c)) (to-list (output-count D c) (out-row D c) o (h .0) (h .1))
+
   in-rows : (r : Row) → Has (rows D c) r → Row-of D c r
   unfolding rows rows-before invocation-rows register-row go-row guard-row out-row
   in-rows r m = ⊎-elim (λ e. rw e refl) (λ k. ⊎-elim called connected (List·Memᴰ·append-cases (join-below (invocation-count D c) (invocation-rows D c)) k)) (List·Memᴰ·cases-cons m)
@@ -30,19 +42,6 @@ module _ (D : Design) (c : ℕ) where
 
       connected : Has (list-below (output-count D c) (out-row D c)) r → Row-of D c r
       connected k = let q = in-list (output-count D c) (out-row D c) k in rw (q .2) (q .1, refl)
-
-  of-invocation : (j : ℕ) (r : Row) → j < invocation-count D c → Has (invocation-rows D c j) r → Has (rows D c) r
-  unfolding rows rows-before
-  of-invocation j r l m =
-      Memᴰ·append-left (list-below (output-count D c) (out-row D c)) (List·Memᴰ·tail (to-join (invocation-count D c) (invocation-rows D c) j l m))
-
-  to-rows : (r : Row) → Row-of D c r → Has (rows D c) r
-  unfolding rows rows-before invocation-rows
-  to-rows (register d n) e = List·Memᴰ·head e
-  to-rows (go j n k) h = of-invocation j (go j n k) (h .0) (List·Memᴰ·head (h .1))
-  to-rows (guard j i f l r) h =
-      of-invocation j (guard j i f l r) (h .0) (List·Memᴰ·tail (to-list (input-count D (invoked D c j)) (guard-row D c j) i (h .1) (h .2)))
-  to-rows (out o r) h = Memᴰ·append-right (rows-before D c (invocation-count D c)) (to-list (output-count D c) (out-row D c) o (h .0) (h .1))
 
   -- The rows are these and no others.
   pub rows-are : (r : Row) → Has (rows D c) r ↔ Row-of D c r
