@@ -32,6 +32,12 @@ pub record Rows-drive (rows : List Row) (rs : List Record) (S : ℕ → Type 0) 
   pub go-row : Has rows (go j n begin)
   pub read : getD rs r wrong ≡ part (argument s)
 
+-- At most one invocation of one start drives an input of an instance in a cycle.
+abbrev pub One-driver : List Row → List Record → (ℕ → Type 0) → Type 0
+One-driver rows rs S =
+    (x n i : ℕ) (s s′ : Source) (r r′ j j′ t t′ : ℕ) → Rows-drive rows rs S x n i s r j t → Rows-drive rows rs S x n i s′ r′ j′ t′
+    → (s ≡ s′) × (r ≡ r′) × (j ≡ j′) × (t ≡ t′)
+
 -- In cycle x instance n is started by invocation j, on account of start t.
 pub record Rows-start (rows : List Row) (S : ℕ → Type 0) (x n j t : ℕ) : Type 0 where
   pub state : ℕ

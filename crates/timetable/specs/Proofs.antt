@@ -1,6 +1,6 @@
 -- Why the statements of Main hold. Lists is used throughout.
 -- Which rows stand where: Placed, Rows. What n covers: States. What rows drive: Right, One. The register as it runs: Register.
--- How large it all is: Sizes. Rows as bytes: Bytes. The units below a top: Begun, Carried.
+-- How large it all is: Sizes. Rows as bytes: Bytes. The units below a top: Begun, Carried. Together: Ensured.
 pub mod Lists
 pub mod Placed
 pub mod Rows
@@ -12,3 +12,4 @@ pub mod Sizes
 pub mod Bytes
 pub mod Begun
 pub mod Carried
+pub mod Ensured

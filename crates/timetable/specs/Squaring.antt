@@ -18,7 +18,8 @@ use Rattle.timetable.specs.Lists.{greatest}
 use Rattle.timetable.specs.States.{own-ends, invocation-ends, states}
 use Rattle.timetable.specs.Rows.{numbers, first-state, last-state, register-row, go-row, guard-row, out-row, invocation-rows, rows-before, rows}
 use Rattle.timetable.specs.Drives.{Rows-drive}
-use Rattle.timetable.specs.Main.{Lowered, accepted-lowering}
+use Rattle.timetable.specs.Lowered.{Lowered}
+use Rattle.timetable.specs.Main.{accepted-lowering}
 
 -- To unfold the design is to unfold whatever looks into it, so that all that is said of it computes.
 unfoldable pub case-A : Design

@@ -23,7 +23,7 @@ module _ (D : Design) (c : ℕ) where
   unfoldable pub states : ℕ
   states = greatest (1 ∷ (own-ends ++ join-below (invocation-count D c) invocation-ends))
 
-  -- m is none of these below. n is the least such m.
+  -- Each of these is at most m. n is the least such m.
   pub record Covers (m : ℕ) : Type 0 where
     pub one : 1 ≤ m
     pub own-inputs : (i : ℕ) → i < input-count D c → (input D c i) .end ≤ m

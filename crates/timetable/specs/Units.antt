@@ -1,5 +1,5 @@
 -- The hardware that the rows of every unit below a top say: which unit is started when, and what the wires between units carry.
--- A unit is a path of instances, as in timeline's Wires. No use is named here, and neither an argument nor a connection but by its row.
+-- A unit is a path of instances, as in timeline's Wires. No use is named here, and arguments and connections only by the rows that name their records.
 -- Assumes nothing.
 use Prim.Native.Nat.{ℕ, _+_}
 use mathlib.Core.Path.{_≡_}
@@ -42,13 +42,15 @@ module _ (D : Design) (top : ℕ) (S : ℕ → Type 0) where
     pub when : start + after D top path ≡ x
 
   module _ (rs : List Record) (x : ℕ) where
-    -- In cycle x source s of unit u carries what pin w does: an output that of the instance which the invocation's row names, an own input that of a source which the rows around the unit drive it with.
+    -- In cycle x source s of unit u carries what pin w does. An output carries what that of the instance does which the invocation's row names;
+    -- an own input what the source does that the rows of the unit around drive it with.
     pub data Rows-carry : List ℕ → Source → Pin → Type 0 where
       by-constant : {u : List ℕ} {v : ℕ} → Rows-carry u (constant v) (constant-pin v)
       by-top : {i : ℕ} → Rows-carry [] (own i) (input-pin i)
       by-leaf : {u : List ℕ} {j o : ℕ} (n k : ℕ) → Has (unit-rows D top u) (go j n k) → class D (component-of D top (n ∷ u)) ≡ leaf
           → Rows-carry u (output-of j o) (output-pin (n ∷ u) o)
-      by-connection : {u : List ℕ} {j o : ℕ} {w : Pin} (n k r : ℕ) (s : Source) → Has (unit-rows D top u) (go j n k) → class D (component-of D top (n ∷ u)) ≡ built
-          → Rows-connect (unit-rows D top (n ∷ u)) rs o s r → Rows-carry (n ∷ u) s w → Rows-carry u (output-of j o) w
+      by-connection : {u : List ℕ} {j o : ℕ} {w : Pin} (n k r : ℕ) (s : Source) → Has (unit-rows D top u) (go j n k)
+          → class D (component-of D top (n ∷ u)) ≡ built → Rows-connect (unit-rows D top (n ∷ u)) rs o s r → Rows-carry (n ∷ u) s w
+          → Rows-carry u (output-of j o) w
       by-argument : {u : List ℕ} {n i : ℕ} {w : Pin} (r j t : ℕ) (s : Source) → Rows-drive (unit-rows D top u) rs (Rows-begin u) x n i s r j t
           → Rows-carry u s w → Rows-carry (n ∷ u) (own i) w

@@ -1,4 +1,5 @@
--- The units below a top begin, by the rows around them, exactly when the uses of demand 3 begin them; so they keep their delay apart, and one thing at most drives an input.
+-- The units below a top are started by the rows around them exactly when the uses of demand 3 start them.
+-- So their starts keep their delay apart, and at most one invocation of one start drives an input.
 -- Assumes nothing.
 use Prim.Native.Nat.{ℕ, _+_, _≤_, _<_}
 use mathlib.Core.Path.{_≡_, refl, sym, ap, _∙_}
@@ -6,7 +7,7 @@ use mathlib.Core.List.{List, [], _∷_}
 use mathlib.Core.Logic.{inl, inr, ⊎-elim, _↔_}
 use lib.ListN.{length}
 use native.Mathlib.Omega.{arith}
-use Rattle.timeline.specs.Design.{Design, Source, built, class, delay, instance, offset}
+use Rattle.timeline.specs.Design.{Design, built, class, delay, instance, offset}
 use Rattle.timeline.specs.Uses.{Spaced, reach, Path-of, unit, after, lasts}
 use Rattle.timeline.specs.Wires.{component-of}
 use Rattle.timeline.specs.Proofs.Takes.{takes-built}
@@ -14,9 +15,7 @@ use Rattle.timeline.specs.Proofs.Down.{Placed, Started, has-parts, unit-compone
 use Rattle.timeline.specs.Proofs.Apart.{nil≢cons, Once, once}
 use Rattle.entry.specs.Records.{Record}
 use Rattle.entry.specs.Numbers.{Standing}
-use Rattle.timetable.specs.Table.{Table-drives, Table-starts}
-use Rattle.timetable.specs.Rows.{rows}
-use Rattle.timetable.specs.Drives.{Rows-drive, Rows-start}
+use Rattle.timetable.specs.Drives.{One-driver}
 use Rattle.timetable.specs.Units.{unit-rows, Rows-begin, Use-begins}
 use Rattle.timetable.specs.Proofs.Right.{rows-right, drives-exactly, starts-exactly}
 use Rattle.timetable.specs.Proofs.One.{one-driver}
@@ -113,12 +112,10 @@ module _ {D : Design} {top : ℕ} {S : ℕ → Type 0} (g : Started D top S) (u 
           (once g (a .start) (b .start) (a .started) (b .started) (a .path) (b .path) (a .is-path) (b .is-path) (a .unit-is ∙ sym (b .unit-is)))
 
   module _ (rs : List Record) (standing : (c : ℕ) → c < length D → Standing D c rs) where
-    pub one-in-unit : {x n i r j t r′ j′ t′ : ℕ} {s s′ : Source} → Rows-drive (unit-rows D top u) rs (Rows-begin D top S u) x n i s r j t
-        → Rows-drive (unit-rows D top u) rs (Rows-begin D top S u) x n i s′ r′ j′ t′ → (j ≡ j′) × (t ≡ t′) × (s ≡ s′) × (r ≡ r′)
-    one-in-unit {x} {n} {i} {r} {j} {t} {r′} {j′} {t′} {s} {s′} d e =
+    pub one-in-unit : One-driver (unit-rows D top u) rs (Rows-begin D top S u)
+    one-in-unit x n i s s′ r r′ j j′ t t′ d e =
         let p = unit-placed (g .placed) S u t (d .active .active .started) in
-        let f = standing (component-of D top u) (p .there) in
-        let a = (drives-exactly p (unit-rows D top u) (rows-right p) (Rows-begin D top S u) rs f x n i s r j t) .0 d in
-        let b = (drives-exactly p (unit-rows D top u) (rows-right p) (Rows-begin D top S u) rs f x n i s′ r′ j′ t′) .0 e in
+        let drives = drives-exactly p (unit-rows D top u) (rows-right p) (Rows-begin D top S u) rs (standing (component-of D top u) (p .there)) in
+        let a = (drives x n i s r j t) .0 d in
         let k : class D (component-of D top u) ≡ built = has-parts (invocations-down p) (component-of D top u) j (p .there) (a .invocation-there) in
-        one-driver (record { placed = p; starts = units-spaced k }) a b
+        one-driver (record { placed = p; starts = units-spaced k }) x n i s s′ r r′ j j′ t t′ a ((drives x n i s′ r′ j′ t′) .0 e)

@@ -1,8 +1,8 @@
 -- Rows as bytes: sixteen each, bytes each, joined as the rows are, and read back.
 -- Assumes nothing.
-use Prim.Native.Nat.{ℕ, zero, suc, _+_, _*_, _/_, _%_, _<_}
-use mathlib.Core.Path.{_≡_, refl, sym}
-use mathlib.Core.List.{List, [], _∷_, _++_, append-assoc, List·Memᴰ·head, List·Memᴰ·tail, List·Memᴰ·not-nil, List·Memᴰ·cases-cons}
+use Prim.Native.Nat.{ℕ, _+_, _*_, _/_, _%_, _<_}
+use mathlib.Core.Path.{_≡_, refl}
+use mathlib.Core.List.{List, [], _∷_, _++_, append-assoc, List·Memᴰ·head, List·Memᴰ·tail, List·Memᴰ·not-nil, List·Memᴰ·cases-cons, List·Memᴰ·append-cases}
 use mathlib.Core.Logic.{⊎-elim}
 use lib.ListN.{length, drop, length-append}
 use native.Mathlib.Omega.{arith}
@@ -67,6 +67,9 @@ are-bytes (v ∷ vs) h b m =
     let k = h v (List·Memᴰ·head refl) in
     ⊎-elim (λ q. omega arith) (λ n. ⊎-elim (λ q. omega arith) (are-bytes vs (λ w i. h w (List·Memᴰ·tail i)) b) (List·Memᴰ·cases-cons n)) (List·Memᴰ·cases-cons m)
 
-pub row-are-bytes : (r : Row) → Fits r → (b : ℕ) → Has (row-bytes r) b → b < 256
-unfolding row-bytes
-row-are-bytes r h b m = are-bytes (numbers r) h b m
+pub rows-are-bytes : (l : List Row) → ((r : Row) → Has l r → Fits r) → (b : ℕ) → Has (rows-bytes l) b → b < 256
+unfolding rows-bytes row-bytes
+rows-are-bytes [] h b m = absurd (List·Memᴰ·not-nil m)
+rows-are-bytes (r ∷ l) h b m =
+    ⊎-elim (are-bytes (numbers r) (h r (List·Memᴰ·head refl)) b) (rows-are-bytes l (λ q k. h q (List·Memᴰ·tail k)) b)
+    (List·Memᴰ·append-cases (row-bytes r) m)

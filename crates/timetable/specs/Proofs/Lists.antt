@@ -1,6 +1,6 @@
 -- What stands in a list by number, and what its greatest is.
 -- Assumes nothing.
-use Prim.Native.Nat.{ℕ, zero, suc, max, _≤_, _<_}
+use Prim.Native.Nat.{ℕ, zero, suc, _≤_, _<_}
 use mathlib.Core.Path.{_≡_, refl, sym}
 use mathlib.Core.List.{List, [], _∷_, _++_, List·Memᴰ·head, List·Memᴰ·tail, List·Memᴰ·not-nil, List·Memᴰ·append-cases, List·Memᴰ·eq-of-singleton, Memᴰ·append-left, Memᴰ·append-right}
 use mathlib.Core.Logic.{⊎-elim}
@@ -48,7 +48,7 @@ has-at [] d i l = absurd (omega arith)
 has-at (x ∷ xs) d zero l = List·Memᴰ·head refl
 has-at (x ∷ xs) d (suc i) l = List·Memᴰ·tail (has-at xs d i (omega arith))
 
--- The greatest is none below, and is the least such number.
+-- Each is at most the greatest, and the greatest is the least such number.
 pub greatest-above : {e : ℕ} {xs : List ℕ} → Has xs e → e ≤ greatest xs
 unfolding greatest
 greatest-above {e} (List·Memᴰ·head {x = x} {xs = xs} q) = let k = le-max-left x (greatest xs) in omega arith

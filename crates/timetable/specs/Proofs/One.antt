@@ -12,12 +12,12 @@ use Rattle.timetable.specs.Table.{Table-drives}
 
 module _ {D : Design} {c : ℕ} {S : ℕ → Type 0} (g : Started D c S) where
   -- Two that drive one input in one cycle are one.
-  pub one-driver : {x n i r j t r′ j′ t′ : ℕ} {s s′ : Source} → Table-drives D c S x n i s r j t → Table-drives D c S x n i s′ r′ j′ t′
-      → (j ≡ j′) × (t ≡ t′) × (s ≡ s′) × (r ≡ r′)
-  one-driver {x} {n} {i} {r} {j} {t} {r′} {j′} {t′} {s} {s′} h k =
+  pub one-driver : (x n i : ℕ) (s s′ : Source) (r r′ j j′ t t′ : ℕ) → Table-drives D c S x n i s r j t → Table-drives D c S x n i s′ r′ j′ t′
+      → (s ≡ s′) × (r ≡ r′) × (j ≡ j′) × (t ≡ t′)
+  one-driver x n i s s′ r r′ j j′ t t′ h k =
       let u : instance D c j ∷ [] ≡ instance D c j′ ∷ [] = cc (h .instance-is, k .instance-is) in
       let a : Holds (input D (invoked D c j) i) (t + (0 + offset D c j)) x = record { from = omega (arith, h .during); upto = omega (arith, h .during) } in
       let b : Holds (input D (invoked D c j′) i) (t′ + (0 + offset D c j′)) x = record { from = omega (arith, k .during); upto = omega (arith, k .during) } in
       let e = input-once g t t′ (j ∷ []) (j′ ∷ []) x (h .started) (k .started) (h .invocation-there, tt) (k .invocation-there, tt) u i (h .input-there) a b in
       let q : j ≡ j′ = cc (e .1) in
-      (q, e .0, cc (h .source-is, k .source-is), cc (h .record-is, k .record-is))
+      (cc (h .source-is, k .source-is), cc (h .record-is, k .record-is), q, e .0)

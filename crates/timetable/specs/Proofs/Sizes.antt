@@ -6,8 +6,8 @@ use mathlib.Core.List.{List, [], _∷_, List·Memᴰ·not-nil, List·Memᴰ·cas
 use mathlib.Core.Logic.{⊎-elim}
 use lib.ListN.{length}
 use native.Mathlib.Omega.{arith}
-use Rattle.timeline.specs.Design.{Design, built, class, delay, input-count, output-count, invocation-count, instance, invoked, offset, gives}
-use Rattle.timeline.specs.Rules.{Port-range, Ranges, Whole, Counts}
+use Rattle.timeline.specs.Design.{Design, built, class, delay, invocation-count, instance, invoked, offset, gives}
+use Rattle.timeline.specs.Rules.{Ranges, Whole, Counts}
 use Rattle.timeline.specs.Proofs.Down.{Placed, use-there, use-ranges}
 use Rattle.entry.specs.Records.{Record}
 use Rattle.entry.specs.Numbers.{argument-number, connection-number, Standing}

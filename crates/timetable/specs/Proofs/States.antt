@@ -5,9 +5,9 @@ use mathlib.Core.Path.{_≡_, refl}
 use mathlib.Core.List.{List, _++_, List·Memᴰ·head, List·Memᴰ·tail, List·Memᴰ·cases-cons, List·Memᴰ·append-cases, Memᴰ·append-left, Memᴰ·append-right}
 use mathlib.Core.Logic.{⊎-elim}
 use native.Mathlib.Omega.{arith}
-use Rattle.timeline.specs.Design.{Design, input-count, output-count, invocation-count, input, output, invoked, offset, gives}
+use Rattle.timeline.specs.Design.{Design, input-count, output-count, invocation-count, input, invoked, offset}
 use Rattle.timeline.specs.Flat.{join-below}
-use Rattle.timetable.specs.Lists.{Has, list-below, greatest}
+use Rattle.timetable.specs.Lists.{Has, list-below}
 use Rattle.timetable.specs.States.{own-ends, invocation-ends, states, Covers}
 use Rattle.timetable.specs.Proofs.Lists.{in-join, to-join, in-list, to-list, greatest-above, greatest-least}
 
