@@ -33,7 +33,7 @@ module _ (D : Design) (c : ℕ) where
   place (guard j i f l r) = guard-place j i
   place (out o r) = out-place o
 
--- The states that the row names are among n, and no guard is empty.
+-- The states that the row names are among the n, and its guard has some.
 abbrev pub Within : ℕ → Row → Type 0
 Within n (register d m) = m ≡ n
 Within n (go j m k) = k < n

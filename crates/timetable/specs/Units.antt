@@ -1,5 +1,5 @@
 -- The hardware that the rows of every unit below a top say: which unit is started when, and what the wires between units carry.
--- A unit is a path of instances, as in timeline's Wires. No use is named here, and arguments and connections only by the rows that name their records.
+-- A unit is a path of instances, as in timeline's Wires. `Rows-begin` and `Rows-carry` name no use, and find arguments and connections by the rows alone.
 -- Assumes nothing.
 use Prim.Native.Nat.{ℕ, _+_}
 use mathlib.Core.Path.{_≡_}
@@ -32,7 +32,7 @@ module _ (D : Design) (top : ℕ) (S : ℕ → Type 0) where
   Rows-begin [] x = S x
   Rows-begin (n ∷ u) x = (j : ℕ) × (t : ℕ) × Rows-start (unit-rows D top u) (Rows-begin u) x n j t
 
-  -- In cycle x the unit u is started by a use of it: what demand 3 speaks of.
+  -- In cycle x the unit u is started by a use of it, as demand 3 has it.
   pub record Use-begins (u : List ℕ) (x : ℕ) : Type 0 where
     pub start : ℕ
     pub started : S start

@@ -30,6 +30,11 @@ module _ (n : ℕ) (s : ℕ → Bool) where
   abbrev On : (x i : ℕ) → Type 0
   On x i = (t : ℕ) × Active n (λ y. s y ≡ true) x i t
 
+  no-more : (x i : ℕ) → n ≤ i → getD (bits-in n s x) i false ≡ false
+  unfolding bits-in next
+  no-more zero i l = past-last n (s 0 ∷ replicate n false) i l
+  no-more (suc x) i l = past-last n (s (suc x) ∷ bits-in n s x) i l
+
   below-last : (x i : ℕ) → i < n → (getD (bits-in n s x) i false ≡ true) ↔ On x i
   unfolding bits-in next
   below-last zero zero l =
@@ -53,11 +58,6 @@ module _ (n : ℕ) (s : ℕ → Bool) where
         λ h. let a = r .0 h in (a .0, record { below = l; started = a .1 .started; before = omega (arith, a .1 .before) }),
         λ a. r .1 (a .0, record { below = omega arith; started = a .1 .started; before = omega (arith, a .1 .before) }),
       )
-
-  no-more : (x i : ℕ) → n ≤ i → getD (bits-in n s x) i false ≡ false
-  unfolding bits-in next
-  no-more zero i l = past-last n (s 0 ∷ replicate n false) i l
-  no-more (suc x) i l = past-last n (s (suc x) ∷ bits-in n s x) i l
 
   pub set-exactly : (x i : ℕ) → (getD (bits-in n s x) i false ≡ true) ↔ On x i
   set-exactly x i = go (decLt i n)
