@@ -87,7 +87,10 @@ fn trip(records: usize, list: &[u8], file: &mut [u8], again: &mut [u8]) {
 fn mend(block: &mut [u8]) {
     if block.len() == 512 {
         let check = fnv::check(block);
-        numbers::put_four(&mut block[508..512], check);
+        block[508] = (check % 256) as u8;
+        block[509] = (check / 256 % 256) as u8;
+        block[510] = (check / 65536 % 256) as u8;
+        block[511] = (check / 16777216 % 256) as u8;
     }
 }
 
@@ -102,7 +105,10 @@ fn asked(file: &[u8]) {
 // Lists of a length that is not allowed, and room that is too short.
 fn unfit(list: &[u8], file: &[u8]) {
     let mut room = [0u8; 511];
-    say_written(b"15 bytes packed: ", packing::pack(b"fifteen bytes..", &mut room));
+    say_written(
+        b"15 bytes packed: ",
+        packing::pack(b"fifteen bytes..", &mut room),
+    );
     say_written(b"no room to pack: ", packing::pack(list, &mut room));
     say_written(b"no room to unpack: ", packing::unpack(file, &mut room));
 }

@@ -1,0 +1,64 @@
+#!/bin/sh
+# The command as a person uses it. It would catch a wrong exit status, output on refusal, and inputs cut short.
+set -u
+cd "$(dirname "$0")/.." || exit 1
+room=$(mktemp -d) || exit 1
+trap 'rm -rf "$room"' EXIT
+failed=0
+
+# expect STATUS NAME COMMAND..: the command ends with that status; what it wrote is in $room/out and $room/err
+expect() {
+    status=$1 name=$2
+    shift 2
+    "$@" >"$room/out" 2>"$room/err" </dev/null
+    got=$?
+    if [ "$got" != "$status" ]; then
+        echo "command: $name: status $got and not $status" >&2
+        failed=1
+    fi
+}
+
+# same NAME FILE FILE
+same() {
+    if ! cmp -s "$2" "$3"; then
+        echo "command: $1: not what it should be" >&2
+        failed=1
+    fi
+}
+
+# says NAME LINE: the last line on standard error, and nothing on standard output
+says() {
+    if [ "$(tail -n 1 "$room/err")" != "$2" ] || [ -s "$room/out" ]; then
+        echo "command: $1: said '$(tail -n 1 "$room/err")' and not '$2', or wrote something" >&2
+        failed=1
+    fi
+}
+
+expect 0 'pack' ./dansevik pack examples/squaring.records
+same 'pack' "$room/out" examples/squaring.design
+expect 0 'unpack' ./dansevik unpack examples/squaring.design
+same 'unpack' "$room/out" examples/squaring.records
+
+expect 1 'nothing packed' ./dansevik pack
+says 'nothing packed' 'refused 1 at 0'
+head -c 65552 /dev/zero >"$room/long"
+expect 1 'a list too long' ./dansevik pack "$room/long"
+says 'a list too long' 'refused 1 at 0'
+{ cat examples/squaring.design; printf 'x'; } >"$room/odd"
+expect 1 'a file with a byte more' ./dansevik unpack "$room/odd"
+says 'a file with a byte more' 'refused 1 at 0'
+head -c 66048 /dev/zero >"$room/blocks"
+expect 1 'a file of 129 blocks' ./dansevik unpack "$room/blocks"
+says 'a file of 129 blocks' 'refused 1 at 0'
+{ printf 'x'; tail -c +2 examples/squaring.design; } >"$room/damaged"
+expect 1 'a damaged block' ./dansevik unpack "$room/damaged"
+says 'a damaged block' 'refused 2 at 0'
+
+expect 0 'help' ./dansevik help
+expect 2 'no command' ./dansevik
+expect 2 'a wrong command' ./dansevik simplify
+expect 2 'no such file' ./dansevik pack "$room/none"
+expect 2 'too many words' ./dansevik pack one two
+
+[ "$failed" = 0 ] && echo 'command: as it should be'
+exit "$failed"
