@@ -1,3 +1,5 @@
+-- `blocks::check_right` meets its contract. Both sides of the test are what their callees ensure.
+-- Assumes nothing.
 use borrow.Author.Needs.{needs}
 use Rattle.blocks.proofs.check_right.Statement.{statement}
 use Rattle.blocks.proofs.check_right.Tie as tie

@@ -1,3 +1,5 @@
+-- `blocks::header_right` meets its contract. A count that is allowed keeps the unused slots within the block; each test is one part of the definition.
+-- Assumes nothing.
 use Prim.Native.Nat.{ℕ}
 use mathlib.Core.Path.{ap, sym, _∙_}
 use native.Mathlib.Omega.{arith}

@@ -1,3 +1,5 @@
+-- `blocks::record` meets its contract. A record that is there stands within the file, so the part is the file's own sixteen bytes.
+-- Assumes nothing.
 use Prim.Native.Nat.{_+_, _≤_}
 use mathlib.Core.Path.{_≡_, refl, ap, sym, _∙_}
 use native.Mathlib.Omega.{arith}

@@ -1,3 +1,5 @@
+-- `blocks::record_answer` meets its contract. The answer of the blocks decides, and after it the count.
+-- Assumes nothing.
 use mathlib.Core.Path.{ap, sym, _∙_}
 use borrow.Author.Tests.{lt-ltb, le-ltb}
 use borrow.Author.Needs.{needs}

@@ -1,3 +1,5 @@
+-- `blocks::sound` meets its contract. The test of the length, and after it the blocks.
+-- Assumes nothing.
 use mathlib.Core.Path.{ap, sym, _∙_}
 use lib.ListN.{length}
 use borrow.Author.Needs.{needs}

@@ -1,3 +1,5 @@
+-- `blocks::sound_blocks` meets its contract. The invariant: what the blocks left answer is what the whole file answers.
+-- Assumes nothing.
 use Prim.Native.Nat.{ℕ, _+_, _-_, _*_, _/_, _≤_}
 use mathlib.Core.Path.{_≡_, ap, sym, _∙_}
 use native.Mathlib.Nat.{sub-zero}

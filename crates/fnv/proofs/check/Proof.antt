@@ -1,3 +1,5 @@
+-- `fnv::check` meets its contract. A block shorter than 508 bytes is all of its first 508.
+-- Assumes nothing.
 use native.Mathlib.Omega.{arith}
 use lib.Seq.{take-all}
 use borrow.Author.Needs.{needs}

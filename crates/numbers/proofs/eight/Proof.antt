@@ -1,3 +1,5 @@
+-- `numbers::eight` meets its contract. A number is its lower half and its upper half.
+-- Assumes nothing.
 use native.Mathlib.Omega.{arith}
 use borrow.Author.Needs.{needs}
 use Rattle.numbers.proofs.Halves.{eight-is}

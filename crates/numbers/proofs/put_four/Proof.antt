@@ -1,3 +1,5 @@
+-- `numbers::put_four` meets its contract. Four stores over four bytes leave what was stored.
+-- Assumes nothing.
 use borrow.Author.Needs.{needs}
 use Rattle.numbers.specs.Numbers.{bytes}
 use Rattle.numbers.proofs.Stores.{sets-all}

@@ -1,3 +1,5 @@
+-- `packing::pack` meets its contract. The tests in their order; the writing is `put_blocks`.
+-- Assumes nothing.
 use mathlib.Core.Path.{refl, ap, sym, _∙_}
 use native.Mathlib.Omega.{arith}
 use lib.ListN.{length}

@@ -1,3 +1,5 @@
+-- `packing::put_block` meets its contract. Five parts, each written behind the one before, are the block.
+-- Assumes nothing.
 use Prim.Native.Nat.{ℕ}
 use mathlib.Core.Path.{ap, _∙_}
 use native.Mathlib.Omega.{arith}

@@ -1,3 +1,5 @@
+-- `packing::put_blocks` meets its contract. The invariant: the blocks so far, and behind them the lent bytes as they were.
+-- Assumes nothing.
 use Prim.Native.Nat.{ℕ, _+_, _-_, _*_, _≤_}
 use mathlib.Core.Path.{_≡_, refl, ap, _∙_}
 use mathlib.Core.List.{List, _++_}

@@ -1,3 +1,5 @@
+-- `packing::put_count` meets its contract. Four stores over four bytes leave what was stored.
+-- Assumes nothing.
 use borrow.Author.Needs.{needs}
 use Rattle.numbers.proofs.Stores.{sets-all}
 use Rattle.packing.specs.Packed.{counting}

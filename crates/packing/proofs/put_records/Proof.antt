@@ -1,3 +1,5 @@
+-- `packing::put_records` meets its contract. The invariant: the records so far, and behind them the lent bytes as they were.
+-- Assumes nothing.
 use Prim.Native.Nat.{_+_, _-_, _≤_, _<_}
 use mathlib.Core.Path.{_≡_, refl, _∙_}
 use mathlib.Core.List.{_++_}

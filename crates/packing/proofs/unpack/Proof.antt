@@ -1,3 +1,5 @@
+-- `packing::unpack` meets its contract. The answer of the blocks decides, and after it the room; the writing is `put_records`.
+-- Assumes nothing.
 use mathlib.Core.Path.{refl, ap, sym, _∙_}
 use native.Mathlib.Omega.{arith}
 use borrow.Author.Tests.{lt-ltb, le-ltb}

@@ -1,3 +1,5 @@
+-- `records::component_of` meets its contract. Each test is one part of the definition, and each arm one of its cases.
+-- Assumes nothing.
 use mathlib.Core.Path.{refl}
 use borrow.Author.Tests.{ne-eqb}
 use borrow.Author.Needs.{needs}

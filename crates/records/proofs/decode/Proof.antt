@@ -1,3 +1,5 @@
+-- `records::decode` meets its contract. The length, then the kind, as the definition goes.
+-- Assumes nothing.
 use mathlib.Core.Path.{ap, sym, _∙_}
 use borrow.Author.Tests.{ne-eqb}
 use borrow.Author.Needs.{needs}

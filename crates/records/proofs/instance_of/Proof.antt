@@ -1,3 +1,5 @@
+-- `records::instance_of` meets its contract. Each test is one part of the definition.
+-- Assumes nothing.
 use mathlib.Core.Path.{refl}
 use borrow.Author.Needs.{needs}
 use Rattle.records.proofs.instance_of.Statement.{statement}

@@ -1,3 +1,5 @@
+-- `records::source_of` meets its contract. Each arm is one case of the definition, and each test one part of it.
+-- Assumes nothing.
 use mathlib.Core.Path.{refl, sym, _∙_}
 use borrow.Author.Tests.{ne-eqb}
 use borrow.Author.Needs.{needs}

@@ -1,3 +1,5 @@
+-- `records::zero_2_to_8` meets its contract. Bytes are zero exactly when the numbers in them are.
+-- Assumes nothing.
 use native.Mathlib.Omega.{arith}
 use borrow.Author.Needs.{needs}
 use Rattle.numbers.proofs.Zeros.{zero-numbers}

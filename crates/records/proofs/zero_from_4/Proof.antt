@@ -1,3 +1,5 @@
+-- `records::zero_from_4` meets its contract. Bytes are zero exactly when the numbers in them are.
+-- Assumes nothing.
 use mathlib.Core.Path.{refl}
 use borrow.Author.Needs.{needs}
 use Rattle.records.proofs.Zeros.{zero-rest}

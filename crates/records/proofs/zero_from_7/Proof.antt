@@ -1,3 +1,5 @@
+-- `records::zero_from_7` meets its contract. Bytes are zero exactly when the numbers in them are.
+-- Assumes nothing.
 use borrow.Author.Needs.{needs}
 use Rattle.records.proofs.Zeros.{zero-seventh}
 use Rattle.records.proofs.zero_from_7.Statement.{statement}
