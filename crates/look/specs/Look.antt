@@ -1,0 +1,21 @@
+-- What stands in a file under a record's number.
+-- Assumes nothing.
+use Prim.Native.Nat.{ℕ, _+_}
+use mathlib.Core.Bool.{cond}
+use mathlib.Core.List.{List}
+use lib.ListN.{length, getD, take, drop}
+use lib.Dec.{ltb}
+use Rattle.timeline.specs.Design.{Port}
+use Rattle.numbers.specs.Numbers.{number}
+use Rattle.blocks.specs.File.{record-place}
+
+module _ (file : List ℕ) (i : ℕ) where
+  -- The bytes of record i.
+  abbrev pub sixteen : List ℕ
+  sixteen = take 16 (drop (record-place i) file)
+
+  -- "Bytes 2–3 start s; bytes 4–5 end e; byte 6 width" of record i, whatever its kind; nothing past the end of the file.
+  unfoldable pub look : Port
+  look =
+      cond (ltb (length file) (record-place i + 16)) (record { start = 0; end = 0; width = 0 })
+      (record { start = number 2 file (record-place i + 2); end = number 2 file (record-place i + 4); width = getD file (record-place i + 6) 0 })

@@ -1,0 +1,37 @@
+-- A table as a list of numbers, five to a row: "class, delay, port counts, first record". (01, Records)
+-- Assumes nothing.
+use Prim.Native.Nat.{ℕ, _+_, _*_}
+use mathlib.Core.Bool.{Bool, true, false, not}
+use mathlib.Core.List.{List}
+use lib.ListN.{getD, set}
+use lib.Dec.{eqb}
+use Rattle.reading.specs.Reader.{Row}
+use Rattle.reader.specs.declared.Signature.{Signature}
+
+abbrev pub row : Signature → Row
+row s = record { built = s .built; delay = s .delay; inputs = s .inputs; outputs = s .outputs; first = s .first }
+
+abbrev pub no-row : Row
+no-row = record { built = false; delay = 0; inputs = 0; outputs = 0; first = 0 }
+
+-- The number of a class: 0 leaf, 1 built.
+abbrev pub bit : Bool → ℕ
+bit true = 1
+bit false = 0
+
+unfoldable pub row-in : List ℕ → ℕ → Row
+row-in rows c =
+    record {
+      built = not (eqb (getD rows (5 * c) 0) 0);
+      delay = getD rows (5 * c + 1) 0;
+      inputs = getD rows (5 * c + 2) 0;
+      outputs = getD rows (5 * c + 3) 0;
+      first = getD rows (5 * c + 4) 0;
+    }
+
+unfoldable pub put-row : List ℕ → ℕ → Row → List ℕ
+put-row rows c w =
+    set
+    (set (set (set (set rows (5 * c) (bit (w .built))) (5 * c + 1) (w .delay)) (5 * c + 2) (w .inputs)) (5 * c + 3) (w .outputs))
+    (5 * c + 4)
+    (w .first)

@@ -1,0 +1,470 @@
+// The reader of a component's records: what it keeps, which refusal a record meets with, and what it keeps after a record that meets with none.
+// The definitions are those of `specs/State.antt`; the theory of reading says what they are good for.
+use order::Place;
+use records::Class;
+use records::Port;
+use records::Record;
+use records::Source;
+ghost use mathlib.Core.Path.{_≡_};
+ghost use mathlib.Core.List.{[]};
+ghost use Prim.Native.Nat.{_+_, _-_, _*_, _≤_, _<_};
+ghost use lib.ListN.{length};
+ghost use Rattle.timeline.specs.Design.{leaf};
+ghost use Rattle.timeline.specs.Rules.{Source-range};
+ghost use Rattle.entry.specs.Records.{component, part, input, output, instance, invocation, argument, connection};
+ghost use Rattle.reading.specs.Tests.{is-built};
+ghost use Rattle.reading.specs.Place.{begun};
+ghost use Rattle.reading.specs.Reader.{waits, reads, tests, part-tests, source-tests};
+ghost use Rattle.reading.specs.Reads.{Ranged};
+ghost use Rattle.records.specs.Says.{says, source, port, class};
+ghost use Rattle.order.specs.Seen.{seen};
+ghost use Rattle.rules.specs.Lowest.{lowest};
+ghost use Rattle.rules.specs.Calls.{no-look};
+ghost use Rattle.look.specs.Look.{look};
+ghost use Rattle.reader.specs.Rows.{bit, row, row-in, put-row};
+ghost use Rattle.reader.specs.State.{state, viewed, bare, own-row, stepped, opened, Room, asked, ended};
+
+// "One row for each component: class, delay, port counts, first record."
+pub struct Signature {
+    pub built: bool,
+    pub delay: u16,
+    pub inputs: u16,
+    pub outputs: u16,
+    pub first: u16,
+}
+
+// Of the component that is being read; and while an argument is due, the record of the input that it feeds and the invocation's offset.
+pub struct Reader {
+    pub place: Place,
+    pub delay: u16,
+    pub first: u16,
+    pub number: u16,
+    pub input: u32,
+    pub offset: u16,
+}
+
+fn size(x: u16) -> usize
+    ensures { λ r. ⌜ (r ≡ x) × (r < 65536) ⌝ }
+{
+    x as usize
+}
+
+fn size32(x: u32) -> usize
+    ensures { λ r. ⌜ (r ≡ x) × (r < 4294967296) ⌝ }
+{
+    x as usize
+}
+
+fn wide(x: u16) -> u32
+    ensures { λ r. ⌜ (r ≡ x) × (r < 65536) ⌝ }
+{
+    x as u32
+}
+
+fn bit(built: bool) -> u16
+    ensures { λ r. ⌜ r ≡ bit built ⌝ }
+{
+    if built { 1 } else { 0 }
+}
+
+fn one_less(x: u16) -> u16
+    ensures { λ r. ⌜ r ≡ x - 1 ⌝ }
+{
+    if 0 < x { x - 1 } else { 0 }
+}
+
+fn is_built(k: Class) -> bool
+    ensures { λ r. ⌜ r ≡ is-built (class k) ⌝ }
+{
+    match k {
+        Class::Leaf => false,
+        Class::Built => true,
+    }
+}
+
+// Row c of a table, five numbers to a row.
+pub fn row_of(rows: &[u16], c: usize) -> Signature
+    requires { ⌜ 5 * c + 5 ≤ length (now rows) ⌝ }
+    ensures { λ r. ⌜ row r ≡ row-in (now (rows .entry)) c ⌝ }
+{
+    let at = 5 * c;
+    Signature {
+        built: rows[at] != 0,
+        delay: rows[at + 1],
+        inputs: rows[at + 2],
+        outputs: rows[at + 3],
+        first: rows[at + 4],
+    }
+}
+
+pub fn put_row(rows: &mut [u16], c: usize, s: Signature)
+    requires { ⌜ 5 * c + 5 ≤ length (now rows) ⌝ }
+    ensures { λ _. ⌜ now (rows .exit) ≡ put-row (now (rows .entry)) c (row s) ⌝ }
+{
+    let at = 5 * c;
+    rows[at] = bit(s.built);
+    rows[at + 1] = s.delay;
+    rows[at + 2] = s.inputs;
+    rows[at + 3] = s.outputs;
+    rows[at + 4] = s.first;
+}
+
+// 5 and 6 of a component record.
+fn component_refusal(r: Reader) -> u8
+    ensures { λ n. ⌜ n ≡ lowest (tests no-look (reads (bare r)) (component leaf 0)) ⌝ }
+{
+    let place = r.place;
+    rules::first(
+        place.may_end(),
+        5,
+        rules::first(wide(r.number) + 1 < 64, 6, 0),
+    )
+}
+
+fn input_refusal(r: Reader, p: Port) -> u8
+    ensures { λ n. ⌜ n ≡ lowest (part-tests no-look (bare r) (input (port p))) ⌝ }
+{
+    let place = r.place;
+    let short = rules::interval_kept(p, r.delay);
+    rules::first(
+        place.may_input(),
+        5,
+        rules::first(place.room_for_input(), 6, rules::first(short, 9, 0)),
+    )
+}
+
+fn output_refusal(r: Reader, p: Port) -> u8
+    ensures { λ n. ⌜ n ≡ lowest (part-tests no-look (bare r) (output (port p))) ⌝ }
+{
+    let place = r.place;
+    let short = rules::interval_kept(p, r.delay);
+    rules::first(
+        place.may_output(),
+        5,
+        rules::first(place.room_for_output(), 6, rules::first(short, 9, 0)),
+    )
+}
+
+// c: the component that it is an instance of.
+fn instance_refusal(r: Reader, c: u16) -> u8
+    ensures { λ n. ⌜ n ≡ lowest (part-tests no-look (bare r) (instance c)) ⌝ }
+{
+    let place = r.place;
+    rules::first(
+        place.may_instance(),
+        5,
+        rules::first(
+            place.room_for_instance(),
+            6,
+            rules::first(c < r.number, 7, 0),
+        ),
+    )
+}
+
+// n: its instance. k: its offset.
+fn invocation_refusal(
+    r: Reader,
+    n: u16,
+    k: u16,
+    held: &[u16; 160],
+    instances: &[u16; 64],
+    offsets: &[u16; 64],
+) -> u8
+    requires { ⌜ n < 32 ⌝ }
+    ensures { λ x. ⌜ x ≡ lowest (part-tests no-look (viewed [] (state r (now (held .entry)) (now (instances .entry)) (now (offsets .entry)) [] [])) (invocation (record { instance = n; offset = k }))) ⌝ }
+{
+    let place = r.place;
+    let may = place.may_invocation();
+    if 64 <= place.invocations {
+        return rules::first(may, 5, 6);
+    }
+    let w = row_of(held, size(n));
+    rules::first(
+        may,
+        5,
+        rules::invocation_refusal(
+            place.instances,
+            r.delay,
+            instances,
+            offsets,
+            size(place.invocations),
+            n,
+            k,
+            w.delay,
+        ),
+    )
+}
+
+// 7, 8 and 12 of a source, of invocations before number `before`, that is read at port q, its event at cycle k.
+fn source_refusal(
+    file: &[u8],
+    r: Reader,
+    before: u16,
+    x: Source,
+    q: Port,
+    k: u16,
+    offsets: &[u16; 64],
+    outputs: &[u16; 64],
+    firsts: &[u32; 64],
+) -> u8
+    requires { ⌜ Source-range (source x) ⌝ }
+    ensures { λ n. ⌜ n ≡ lowest (source-tests (look (now (file .entry))) (viewed [] (state r [] [] (now (offsets .entry)) (now (outputs .entry)) (now (firsts .entry)))) before (source x) (port q) k) ⌝ }
+{
+    match x {
+        Source::Own(i) => {
+            let place = r.place;
+            let p = look::port_at(file, size(r.first) + 1 + size(i));
+            rules::fed_refusal(i < place.inputs, p, 0, q, k)
+        }
+        Source::Output(j, o) => {
+            let at = size(j);
+            let p = look::port_at(file, size32(firsts[at]) + size(o));
+            let there = (j < before) & (o < outputs[at]);
+            rules::fed_refusal(there, p, offsets[at], q, k)
+        }
+        Source::Constant(v) => rules::constant_refusal(v, q),
+    }
+}
+
+fn argument_refusal(
+    file: &[u8],
+    r: Reader,
+    x: Source,
+    offsets: &[u16; 64],
+    outputs: &[u16; 64],
+    firsts: &[u32; 64],
+) -> u8
+    requires { ⌜ Source-range (source x) ⌝ }
+    ensures { λ n. ⌜ n ≡ lowest (part-tests (look (now (file .entry))) (viewed [] (state r [] [] (now (offsets .entry)) (now (outputs .entry)) (now (firsts .entry)))) (argument (source x))) ⌝ }
+{
+    let place = r.place;
+    let q = look::port_at(file, size32(r.input));
+    let before = one_less(place.invocations);
+    rules::first(
+        place.may_argument(),
+        5,
+        source_refusal(file, r, before, x, q, r.offset, offsets, outputs, firsts),
+    )
+}
+
+fn connection_refusal(
+    file: &[u8],
+    r: Reader,
+    x: Source,
+    offsets: &[u16; 64],
+    outputs: &[u16; 64],
+    firsts: &[u32; 64],
+) -> u8
+    requires { ⌜ Source-range (source x) ⌝ }
+    ensures { λ n. ⌜ n ≡ lowest (part-tests (look (now (file .entry))) (viewed [] (state r [] [] (now (offsets .entry)) (now (outputs .entry)) (now (firsts .entry)))) (connection (source x))) ⌝ }
+{
+    let place = r.place;
+    let q = look::port_at(
+        file,
+        size(r.first) + 1 + size(place.inputs) + size(place.connections),
+    );
+    rules::first(
+        place.may_connection(),
+        5,
+        source_refusal(
+            file,
+            r,
+            place.invocations,
+            x,
+            q,
+            0,
+            offsets,
+            outputs,
+            firsts,
+        ),
+    )
+}
+
+// The number of the refusal that a record meets with, 0 for none.
+pub fn refusal(
+    file: &[u8],
+    r: Reader,
+    x: Record,
+    held: &[u16; 160],
+    instances: &[u16; 64],
+    offsets: &[u16; 64],
+    outputs: &[u16; 64],
+    firsts: &[u32; 64],
+) -> u8
+    requires { ⌜ Ranged (says x) ⌝ }
+    ensures { λ n. ⌜ n ≡ lowest (tests (look (now (file .entry))) (reads (viewed [] (state r (now (held .entry)) (now (instances .entry)) (now (offsets .entry)) (now (outputs .entry)) (now (firsts .entry))))) (says x)) ⌝ }
+{
+    match x {
+        Record::Component(_, _) => component_refusal(r),
+        Record::Input(p) => input_refusal(r, p),
+        Record::Output(p) => output_refusal(r, p),
+        Record::Instance(c) => instance_refusal(r, c),
+        Record::Invocation(n, k) => invocation_refusal(r, n, k, held, instances, offsets),
+        Record::Argument(a) => {
+            let s = a.source;
+            argument_refusal(file, r, s, offsets, outputs, firsts)
+        }
+        Record::Connection(s) => connection_refusal(file, r, s, offsets, outputs, firsts),
+        Record::Wrong => 4,
+    }
+}
+
+// The same of the first record, before which there is no component.
+pub fn first_refusal(x: Record) -> u8
+    ensures { λ n. ⌜ n ≡ lowest (tests no-look waits (says x)) ⌝ }
+{
+    match x {
+        Record::Component(_, _) => 0,
+        Record::Input(_) => 5,
+        Record::Output(_) => 5,
+        Record::Instance(_) => 5,
+        Record::Invocation(_, _) => 5,
+        Record::Argument(_) => 5,
+        Record::Connection(_) => 5,
+        Record::Wrong => 4,
+    }
+}
+
+// The component of the table that a record asks for, 64 for none.
+pub fn asked(x: Record) -> usize
+    ensures { λ c. ⌜ c ≡ asked (says x) ⌝ }
+{
+    match x {
+        Record::Component(_, _) => 64,
+        Record::Input(_) => 64,
+        Record::Output(_) => 64,
+        Record::Instance(c) => size(c),
+        Record::Invocation(_, _) => 64,
+        Record::Argument(_) => 64,
+        Record::Connection(_) => 64,
+        Record::Wrong => 64,
+    }
+}
+
+// The component that a record ends, the one that has been read, 64 for none.
+pub fn ended(r: Reader, x: Record) -> usize
+    ensures { λ c. ⌜ c ≡ ended (r .number) (says x) ⌝ }
+{
+    match x {
+        Record::Component(_, _) => size(r.number),
+        Record::Input(_) => 64,
+        Record::Output(_) => 64,
+        Record::Instance(_) => 64,
+        Record::Invocation(_, _) => 64,
+        Record::Argument(_) => 64,
+        Record::Connection(_) => 64,
+        Record::Wrong => 64,
+    }
+}
+
+// The row of the component that has been read.
+pub fn own_row(r: Reader) -> Signature
+    ensures { λ w. ⌜ row w ≡ own-row (state r [] [] [] [] []) ⌝ }
+{
+    let place = r.place;
+    Signature {
+        built: place.built,
+        delay: r.delay,
+        inputs: place.inputs,
+        outputs: place.outputs,
+        first: r.first,
+    }
+}
+
+// The same at another place.
+fn moved(r: Reader, place: Place) -> Reader
+    ensures { λ q. ⌜ q ≡ record { place = place; delay = r .delay; first = r .first; number = r .number; input = r .input; offset = r .offset } ⌝ }
+{
+    Reader {
+        place,
+        delay: r.delay,
+        first: r.first,
+        number: r.number,
+        input: r.input,
+        offset: r.offset,
+    }
+}
+
+// A component begins.
+fn begin(k: Class, delay: u16, first: u16, number: u16) -> Reader
+    ensures { λ q. ⌜ (seen (q .place) ≡ begun (is-built (class k))) × (q .delay ≡ delay) × (q .first ≡ first) × (q .number ≡ number) × (q .input ≡ 0) × (q .offset ≡ 0) ⌝ }
+{
+    let built = is_built(k);
+    Reader {
+        place: order::begun(built),
+        delay,
+        first,
+        number,
+        input: 0,
+        offset: 0,
+    }
+}
+
+// What is kept after record number p, which met with no refusal; w is the row that it asks for.
+pub fn step(
+    r: Reader,
+    x: Record,
+    p: u16,
+    w: Signature,
+    held: &mut [u16; 160],
+    instances: &mut [u16; 64],
+    offsets: &mut [u16; 64],
+    outputs: &mut [u16; 64],
+    firsts: &mut [u32; 64],
+) -> Reader
+    requires { ⌜ Room (state r (now held) (now instances) (now offsets) (now outputs) (now firsts)) (says x) × (r .input ≤ 65536 + p) ⌝ }
+    ensures { λ q. ⌜ (state q (now (held .exit)) (now (instances .exit)) (now (offsets .exit)) (now (outputs .exit)) (now (firsts .exit)) ≡ stepped (state r (now (held .entry)) (now (instances .entry)) (now (offsets .entry)) (now (outputs .entry)) (now (firsts .entry))) p (row w) (says x)) × (q .input ≤ 65537 + p) ⌝ }
+{
+    let place = r.place;
+    match x {
+        Record::Component(k, d) => begin(k, d, p, r.number + 1),
+        Record::Input(_) => moved(r, place.input()),
+        Record::Output(_) => moved(r, place.output()),
+        Record::Instance(_) => {
+            put_row(held, size(place.instances), w);
+            moved(r, place.instance())
+        }
+        Record::Invocation(n, k) => {
+            let v = row_of(held, size(n));
+            let j = size(place.invocations);
+            instances[j] = n;
+            offsets[j] = k;
+            outputs[j] = v.outputs;
+            firsts[j] = wide(v.first) + 1 + wide(v.inputs);
+            Reader {
+                place: place.invocation(v.inputs),
+                delay: r.delay,
+                first: r.first,
+                number: r.number,
+                input: wide(v.first) + 1,
+                offset: k,
+            }
+        }
+        Record::Argument(_) => Reader {
+            place: place.argument(),
+            delay: r.delay,
+            first: r.first,
+            number: r.number,
+            input: r.input + 1,
+            offset: r.offset,
+        },
+        Record::Connection(_) => moved(r, place.connection()),
+        Record::Wrong => r,
+    }
+}
+
+// What is kept after the first record.
+pub fn opened(x: Record) -> Reader
+    ensures { λ q. ⌜ (state q [] [] [] [] [] ≡ opened (state q [] [] [] [] []) (says x)) × (q .input ≡ 0) ⌝ }
+{
+    match x {
+        Record::Component(k, d) => begin(k, d, 0, 0),
+        Record::Input(_) => begin(Class::Leaf, 0, 0, 0),
+        Record::Output(_) => begin(Class::Leaf, 0, 0, 0),
+        Record::Instance(_) => begin(Class::Leaf, 0, 0, 0),
+        Record::Invocation(_, _) => begin(Class::Leaf, 0, 0, 0),
+        Record::Argument(_) => begin(Class::Leaf, 0, 0, 0),
+        Record::Connection(_) => begin(Class::Leaf, 0, 0, 0),
+        Record::Wrong => begin(Class::Leaf, 0, 0, 0),
+    }
+}
