@@ -1,0 +1,19 @@
+//! Files to judge: written by hand, drawn by chance, damaged, as large as the limits allow, and hostile.
+
+mod chance;
+mod damage;
+mod draft;
+mod drawn;
+mod hostile;
+mod list;
+mod rich;
+mod squaring;
+
+pub use chance::Chance;
+pub use damage::{damaged, damaged_blocks};
+pub use draft::{Draft, Drawing};
+pub use drawn::drawn;
+pub use hostile::{deep, doubling, empty_levels, hidden, many_rows, many_units, scattered, unused_instances};
+pub use list::{constant, output_of, own, seal, List};
+pub use rich::rich;
+pub use squaring::{squaring, variants};
