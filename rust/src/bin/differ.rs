@@ -1,0 +1,98 @@
+//! Compares a judging program with the plain implementation: a command that reads a file on standard input and prints
+//! `accepted C R` or `refused N at P`.
+//!
+//!     differ [-n FILES] [-s SEED] COMMAND ARGUMENTS..
+//!
+//! It runs on every case and on so many files by chance (500), and reports the first differences, each with the place
+//! where it keeps the file. The exit status is 0 where there is none, 1 where there is one, 2 on misuse.
+
+use dansevik::cases::{all, line};
+use dansevik::designs::{damaged, damaged_blocks, drawn, Chance};
+use std::io::{self, Write};
+use std::process::{exit, Command, Stdio};
+use std::{env, fs};
+
+/// Most differences that are reported.
+const SHOWN: usize = 10;
+
+struct Asked {
+    files: u64,
+    seed: u64,
+    command: Vec<String>,
+}
+
+fn asked() -> Option<Asked> {
+    let mut asked = Asked { files: 500, seed: 1, command: vec![] };
+    let mut words = env::args().skip(1);
+    while let Some(word) = words.next() {
+        match word.as_str() {
+            "-n" => asked.files = words.next()?.parse().ok()?,
+            "-s" => asked.seed = words.next()?.parse().ok()?,
+            _ => {
+                asked.command.push(word);
+                asked.command.extend(words);
+                return Some(asked);
+            }
+        }
+    }
+    None
+}
+
+/// What the command prints for a file.
+fn printed(command: &[String], file: &[u8]) -> io::Result<String> {
+    let mut child = Command::new(&command[0]).args(&command[1..]).stdin(Stdio::piped()).stdout(Stdio::piped()).spawn()?;
+    if let Some(mut stdin) = child.stdin.take() {
+        // a program may refuse before it has read everything
+        let _ = stdin.write_all(file);
+    }
+    let output = child.wait_with_output()?;
+    Ok(String::from_utf8_lossy(&output.stdout).into_owned())
+}
+
+/// A file by chance: lawful, or damaged in a record or two, or in its blocks.
+fn by_chance(chance: &mut Chance) -> Vec<u8> {
+    let most = if chance.one_in(8) { 64 } else { 8 };
+    let mut list = drawn(chance, most).list();
+    for _ in 0..chance.below(3) {
+        list = damaged(chance, list);
+    }
+    let file = list.file();
+    if chance.one_in(10) {
+        damaged_blocks(chance, file)
+    } else {
+        file
+    }
+}
+
+fn main() -> io::Result<()> {
+    let asked = match asked() {
+        Some(asked) => asked,
+        None => {
+            eprintln!("usage: differ [-n FILES] [-s SEED] COMMAND ARGUMENTS..");
+            exit(2);
+        }
+    };
+    let cases = all().into_iter().map(|case| (format!("case-{}", case.name), case.file));
+    let drawn = (0..asked.files).map(|n| {
+        let seed = asked.seed.wrapping_mul(1_000_003).wrapping_add(n);
+        (format!("seed-{}-{n}", asked.seed), by_chance(&mut Chance::new(seed)))
+    });
+    let mut compared = 0;
+    let mut different = 0;
+    for (name, file) in cases.chain(drawn) {
+        let expected = format!("{}\n", line(&file));
+        let found = printed(&asked.command, &file)?;
+        compared += 1;
+        if found == expected {
+            continue;
+        }
+        different += 1;
+        if different <= SHOWN {
+            let kept = env::temp_dir().join(format!("differ-{name}"));
+            fs::write(&kept, &file)?;
+            println!("{name}: expected {expected:?}, printed {found:?}, file {}", kept.display());
+        }
+    }
+    println!("{compared} files compared, {different} different");
+    exit(i32::from(different > 0));
+}
