@@ -11,13 +11,13 @@ ghost use Rattle.order.specs.Seen.{seen};
 pub struct Place {
     pub built: bool,
     // how many of each kind have been read
-    pub inputs: u16,
-    pub outputs: u16,
-    pub instances: u16,
-    pub invocations: u16,
-    pub connections: u16,
+    pub inputs: usize,
+    pub outputs: usize,
+    pub instances: usize,
+    pub invocations: usize,
+    pub connections: usize,
     // arguments still to come
-    pub due: u16,
+    pub due: usize,
 }
 
 // The place after a component record.
@@ -136,7 +136,7 @@ impl Place {
     }
 
     // inputs: of the invoked component, "one argument for every input".
-    pub fn invocation(mut self, inputs: u16) -> Place
+    pub fn invocation(mut self, inputs: usize) -> Place
         requires { ⌜ self .invocations < 64 ⌝ }
         ensures { λ r. ⌜ seen r ≡ moved (seen self) (invocation no-call) inputs ⌝ }
     {

@@ -1,2 +1,3 @@
 pub mod Fed
+pub mod Passed
 pub mod Kept

@@ -1,18 +1,20 @@
 -- What the reader keeps beside the table, how the theory sees it, and what it keeps after a record.
 -- Assumes nothing.
-use Prim.Native.Nat.{ℕ, _+_, _<_}
-use mathlib.Core.Bool.{Bool}
+use Prim.Native.Nat.{ℕ, _+_, _≤_, _<_}
+use mathlib.Core.Bool.{Bool, false}
+use mathlib.Core.Path.{_≡_}
 use mathlib.Core.List.{List, []}
 use lib.ListN.{getD, set}
-use Rattle.timeline.specs.Design.{Class, leaf}
+use Rattle.timeline.specs.Design.{Class, leaf, Port}
 use Rattle.entry.specs.Records.{Part, input, output, instance, invocation, argument, connection, Record, wrong, component, part}
 use Rattle.reading.specs.Tests.{is-built}
 use Rattle.reading.specs.Place.{Place, begun, moved}
 use Rattle.reading.specs.Reader as Reading
-use Rattle.reading.specs.Reader.{Row}
+use Rattle.reading.specs.Reader.{Row, tests}
+use Rattle.rules.specs.Lowest.{lowest}
 use Rattle.order.specs.Seen.{seen}
 use Rattle.reader.specs.declared.Reader.{Reader}
-use Rattle.reader.specs.Rows.{row-in, put-row}
+use Rattle.reader.specs.Rows.{row-in}
 
 pub record State : Type 0 where
   pub place : Place
@@ -38,6 +40,23 @@ state r held instances offsets outputs output-records =
       number = r .number;
       input-record = r .input;
       due-offset = r .offset;
+      held = held;
+      instances = instances;
+      offsets = offsets;
+      outputs = outputs;
+      output-records = output-records;
+    }
+
+-- Before the first record.
+abbrev pub before : (held instances offsets outputs output-records : List ℕ) → State
+before held instances offsets outputs output-records =
+    record {
+      place = begun false;
+      delay = 0;
+      first = 0;
+      number = 0;
+      input-record = 0;
+      due-offset = 0;
       held = held;
       instances = instances;
       offsets = offsets;
@@ -105,25 +124,12 @@ module _ (s : State) where
         output-records = s .output-records;
       }
 
-  -- w: the row of the component that an instance record names.
-  abbrev pub part-stepped : Row → Part → State
-  part-stepped w (input p) = at-place (moved (s .place) (input p) 0)
-  part-stepped w (output p) = at-place (moved (s .place) (output p) 0)
-  part-stepped w (instance n) =
-      record {
-        place = moved (s .place) (instance n) 0;
-        delay = s .delay;
-        first = s .first;
-        number = s .number;
-        input-record = s .input-record;
-        due-offset = s .due-offset;
-        held = put-row (s .held) (s .place .instances) w;
-        instances = s .instances;
-        offsets = s .offsets;
-        outputs = s .outputs;
-        output-records = s .output-records;
-      }
-  part-stepped w (invocation v) =
+  -- The row that an instance record asks for is put into `held` apart.
+  abbrev pub part-went : Part → State
+  part-went (input p) = at-place (moved (s .place) (input p) 0)
+  part-went (output p) = at-place (moved (s .place) (output p) 0)
+  part-went (instance n) = at-place (moved (s .place) (instance n) 0)
+  part-went (invocation v) =
       record {
         place = moved (s .place) (invocation v) ((row-in (s .held) (v .instance)) .inputs);
         delay = s .delay;
@@ -137,7 +143,7 @@ module _ (s : State) where
         outputs = set (s .outputs) (s .place .invocations) ((row-in (s .held) (v .instance)) .outputs);
         output-records = set (s .output-records) (s .place .invocations) ((row-in (s .held) (v .instance)) .first + 1 + (row-in (s .held) (v .instance)) .inputs);
       }
-  part-stepped w (argument x) =
+  part-went (argument x) =
       record {
         place = moved (s .place) (argument x) 0;
         delay = s .delay;
@@ -151,26 +157,28 @@ module _ (s : State) where
         outputs = s .outputs;
         output-records = s .output-records;
       }
-  part-stepped w (connection x) = at-place (moved (s .place) (connection x) 0)
+  part-went (connection x) = at-place (moved (s .place) (connection x) 0)
 
-  abbrev pub stepped : (p : ℕ) → Row → Record → State
-  stepped p w wrong = s
-  stepped p w (component k d) = begin s k d p (s .number + 1)
-  stepped p w (part x) = part-stepped w x
+  abbrev pub went : (p : ℕ) → Record → State
+  went p wrong = s
+  went p (component k d) = begin s k d p (s .number + 1)
+  went p (part x) = part-went x
 
-  -- What the counts must leave room for.
-  abbrev pub Part-room : Part → Type 0
-  Part-room (input p) = s .place .inputs < 16
-  Part-room (output p) = s .place .outputs < 16
-  Part-room (instance n) = s .place .instances < 32
-  Part-room (invocation v) = (s .place .invocations < 64) × (v .instance < 32)
-  Part-room (argument x) = 0 < s .place .due
-  Part-room (connection x) = s .place .connections < s .place .outputs
-
-  abbrev pub Room : Record → Type 0
-  Room wrong = Unit
-  Room (component k d) = s .number < 64
-  Room (part x) = Part-room x
+  abbrev pub holding : List ℕ → State
+  holding h =
+      record {
+        place = s .place;
+        delay = s .delay;
+        first = s .first;
+        number = s .number;
+        input-record = s .input-record;
+        due-offset = s .due-offset;
+        held = h;
+        instances = s .instances;
+        offsets = s .offsets;
+        outputs = s .outputs;
+        output-records = s .output-records;
+      }
 
 -- After the first record; what another than a component record begins is not looked at.
 abbrev pub opened : State → Record → State
@@ -196,3 +204,16 @@ abbrev pub ended : (number : ℕ) → Record → ℕ
 ended c wrong = 64
 ended c (component k d) = c
 ended c (part x) = 64
+
+-- What the counts of a reader that met with no refusal stay below.
+pub record Few (r : Reader) : Type 0 where
+  pub number : r .number < 64
+  pub inputs : r .place .inputs ≤ 16
+  pub outputs : r .place .outputs ≤ 16
+  pub connections : r .place .connections ≤ 16
+
+-- After record x, number p, in state s: the number of its refusal, and the next state where there is none.
+pub record Turned (look : ℕ → Port) (s : State) (p : ℕ) (x : Record) (refusal : ℕ) (s′ : State) : Type 0 where
+  pub lowest-is : refusal ≡ lowest (tests look (Reading.reads (viewed [] s)) x)
+  pub goes-on : refusal ≡ 0 → s′ ≡ went s p x
+  pub input-record : refusal ≡ 0 → s′ .input-record ≤ 65536 + (p + 1)

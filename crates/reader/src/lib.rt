@@ -6,8 +6,8 @@ use records::Port;
 use records::Record;
 use records::Source;
 ghost use mathlib.Core.Path.{_≡_};
-ghost use mathlib.Core.List.{[]};
-ghost use Prim.Native.Nat.{_+_, _-_, _*_, _≤_, _<_};
+ghost use mathlib.Core.List.{List, []};
+ghost use Prim.Native.Nat.{ℕ, _+_, _-_, _*_, _≤_, _<_};
 ghost use lib.ListN.{length};
 ghost use Rattle.timeline.specs.Design.{leaf};
 ghost use Rattle.timeline.specs.Rules.{Source-range};
@@ -22,7 +22,7 @@ ghost use Rattle.rules.specs.Lowest.{lowest};
 ghost use Rattle.rules.specs.Calls.{no-look};
 ghost use Rattle.look.specs.Look.{look};
 ghost use Rattle.reader.specs.Rows.{bit, row, row-in, put-row};
-ghost use Rattle.reader.specs.State.{state, viewed, bare, own-row, stepped, opened, Room, asked, ended};
+ghost use Rattle.reader.specs.State.{state, before, viewed, bare, own-row, opened, Few, Turned, asked, ended};
 
 // "One row for each component: class, delay, port counts, first record."
 pub struct Signature {
@@ -37,9 +37,9 @@ pub struct Signature {
 pub struct Reader {
     pub place: Place,
     pub delay: u16,
+    pub number: usize,
     pub first: u16,
-    pub number: u16,
-    pub input: u32,
+    pub input: usize,
     pub offset: u16,
 }
 
@@ -61,13 +61,20 @@ fn wide(x: u16) -> u32
     x as u32
 }
 
+fn half(x: usize) -> u16
+    requires { ⌜ x < 65536 ⌝ }
+    ensures { λ r. ⌜ r ≡ x ⌝ }
+{
+    x as u16
+}
+
 fn bit(built: bool) -> u16
     ensures { λ r. ⌜ r ≡ bit built ⌝ }
 {
     if built { 1 } else { 0 }
 }
 
-fn one_less(x: u16) -> u16
+fn one_less(x: usize) -> usize
     ensures { λ r. ⌜ r ≡ x - 1 ⌝ }
 {
     if 0 < x { x - 1 } else { 0 }
@@ -111,14 +118,11 @@ pub fn put_row(rows: &mut [u16], c: usize, s: Signature)
 
 // 5 and 6 of a component record.
 fn component_refusal(r: Reader) -> u8
+    requires { ⌜ Few r ⌝ }
     ensures { λ n. ⌜ n ≡ lowest (tests no-look (reads (bare r)) (component leaf 0)) ⌝ }
 {
     let place = r.place;
-    rules::first(
-        place.may_end(),
-        5,
-        rules::first(wide(r.number) + 1 < 64, 6, 0),
-    )
+    rules::first(place.may_end(), 5, rules::first(r.number + 1 < 64, 6, 0))
 }
 
 fn input_refusal(r: Reader, p: Port) -> u8
@@ -156,7 +160,7 @@ fn instance_refusal(r: Reader, c: u16) -> u8
         rules::first(
             place.room_for_instance(),
             6,
-            rules::first(c < r.number, 7, 0),
+            rules::first(size(c) < r.number, 7, 0),
         ),
     )
 }
@@ -187,7 +191,7 @@ fn invocation_refusal(
             r.delay,
             instances,
             offsets,
-            size(place.invocations),
+            place.invocations,
             n,
             k,
             w.delay,
@@ -199,7 +203,7 @@ fn invocation_refusal(
 fn source_refusal(
     file: &[u8],
     r: Reader,
-    before: u16,
+    before: usize,
     x: Source,
     q: Port,
     k: u16,
@@ -214,12 +218,12 @@ fn source_refusal(
         Source::Own(i) => {
             let place = r.place;
             let p = look::port_at(file, size(r.first) + 1 + size(i));
-            rules::fed_refusal(i < place.inputs, p, 0, q, k)
+            rules::fed_refusal(size(i) < place.inputs, p, 0, q, k)
         }
         Source::Output(j, o) => {
             let at = size(j);
             let p = look::port_at(file, size32(firsts[at]) + size(o));
-            let there = (j < before) & (o < outputs[at]);
+            let there = (at < before) & (o < outputs[at]);
             rules::fed_refusal(there, p, offsets[at], q, k)
         }
         Source::Constant(v) => rules::constant_refusal(v, q),
@@ -234,11 +238,12 @@ fn argument_refusal(
     outputs: &[u16; 64],
     firsts: &[u32; 64],
 ) -> u8
-    requires { ⌜ Source-range (source x) ⌝ }
+    requires { ⌜ (Source-range (source x)) × (r .input < 1048576) ⌝ }
     ensures { λ n. ⌜ n ≡ lowest (part-tests (look (now (file .entry))) (viewed [] (state r [] [] (now (offsets .entry)) (now (outputs .entry)) (now (firsts .entry)))) (argument (source x))) ⌝ }
 {
     let place = r.place;
-    let q = look::port_at(file, size32(r.input));
+    // The remainder changes nothing: it tells the compiler how small the number is.
+    let q = look::port_at(file, r.input % 1048576);
     let before = one_less(place.invocations);
     rules::first(
         place.may_argument(),
@@ -255,14 +260,11 @@ fn connection_refusal(
     outputs: &[u16; 64],
     firsts: &[u32; 64],
 ) -> u8
-    requires { ⌜ Source-range (source x) ⌝ }
+    requires { ⌜ (Source-range (source x)) × Few r ⌝ }
     ensures { λ n. ⌜ n ≡ lowest (part-tests (look (now (file .entry))) (viewed [] (state r [] [] (now (offsets .entry)) (now (outputs .entry)) (now (firsts .entry)))) (connection (source x))) ⌝ }
 {
     let place = r.place;
-    let q = look::port_at(
-        file,
-        size(r.first) + 1 + size(place.inputs) + size(place.connections),
-    );
+    let q = look::port_at(file, size(r.first) + 1 + place.inputs + place.connections);
     rules::first(
         place.may_connection(),
         5,
@@ -280,36 +282,7 @@ fn connection_refusal(
     )
 }
 
-// The number of the refusal that a record meets with, 0 for none.
-pub fn refusal(
-    file: &[u8],
-    r: Reader,
-    x: Record,
-    held: &[u16; 160],
-    instances: &[u16; 64],
-    offsets: &[u16; 64],
-    outputs: &[u16; 64],
-    firsts: &[u32; 64],
-) -> u8
-    requires { ⌜ Ranged (says x) ⌝ }
-    ensures { λ n. ⌜ n ≡ lowest (tests (look (now (file .entry))) (reads (viewed [] (state r (now (held .entry)) (now (instances .entry)) (now (offsets .entry)) (now (outputs .entry)) (now (firsts .entry))))) (says x)) ⌝ }
-{
-    match x {
-        Record::Component(_, _) => component_refusal(r),
-        Record::Input(p) => input_refusal(r, p),
-        Record::Output(p) => output_refusal(r, p),
-        Record::Instance(c) => instance_refusal(r, c),
-        Record::Invocation(n, k) => invocation_refusal(r, n, k, held, instances, offsets),
-        Record::Argument(a) => {
-            let s = a.source;
-            argument_refusal(file, r, s, offsets, outputs, firsts)
-        }
-        Record::Connection(s) => connection_refusal(file, r, s, offsets, outputs, firsts),
-        Record::Wrong => 4,
-    }
-}
-
-// The same of the first record, before which there is no component.
+// The number of the refusal that the first record meets with, before which there is no component; 0 for none.
 pub fn first_refusal(x: Record) -> u8
     ensures { λ n. ⌜ n ≡ lowest (tests no-look waits (says x)) ⌝ }
 {
@@ -346,7 +319,7 @@ pub fn ended(r: Reader, x: Record) -> usize
     ensures { λ c. ⌜ c ≡ ended (r .number) (says x) ⌝ }
 {
     match x {
-        Record::Component(_, _) => size(r.number),
+        Record::Component(_, _) => r.number,
         Record::Input(_) => 64,
         Record::Output(_) => 64,
         Record::Instance(_) => 64,
@@ -359,14 +332,15 @@ pub fn ended(r: Reader, x: Record) -> usize
 
 // The row of the component that has been read.
 pub fn own_row(r: Reader) -> Signature
+    requires { ⌜ Few r ⌝ }
     ensures { λ w. ⌜ row w ≡ own-row (state r [] [] [] [] []) ⌝ }
 {
     let place = r.place;
     Signature {
         built: place.built,
         delay: r.delay,
-        inputs: place.inputs,
-        outputs: place.outputs,
+        inputs: half(place.inputs),
+        outputs: half(place.outputs),
         first: r.first,
     }
 }
@@ -386,7 +360,7 @@ fn moved(r: Reader, place: Place) -> Reader
 }
 
 // A component begins.
-fn begin(k: Class, delay: u16, first: u16, number: u16) -> Reader
+fn begin(k: Class, delay: u16, first: u16, number: usize) -> Reader
     ensures { λ q. ⌜ (seen (q .place) ≡ begun (is-built (class k))) × (q .delay ≡ delay) × (q .first ≡ first) × (q .number ≡ number) × (q .input ≡ 0) × (q .offset ≡ 0) ⌝ }
 {
     let built = is_built(k);
@@ -400,62 +374,137 @@ fn begin(k: Class, delay: u16, first: u16, number: u16) -> Reader
     }
 }
 
-// What is kept after record number p, which met with no refusal; w is the row that it asks for.
-pub fn step(
+// A refusal's number, 0 for none, and what is kept where there is none.
+pub struct Outcome {
+    pub refusal: u8,
+    pub reader: Reader,
+}
+
+fn answered(refusal: u8, reader: Reader) -> Outcome
+    ensures { λ t. ⌜ (t .refusal ≡ refusal) × (t .reader ≡ reader) ⌝ }
+{
+    Outcome { refusal, reader }
+}
+
+// Record number p. The row that an instance record asks for is put into `held` by the caller.
+pub fn turn(
+    file: &[u8],
     r: Reader,
     x: Record,
     p: u16,
-    w: Signature,
-    held: &mut [u16; 160],
+    held: &[u16; 160],
     instances: &mut [u16; 64],
     offsets: &mut [u16; 64],
     outputs: &mut [u16; 64],
     firsts: &mut [u32; 64],
-) -> Reader
-    requires { ⌜ Room (state r (now held) (now instances) (now offsets) (now outputs) (now firsts)) (says x) × (r .input ≤ 65536 + p) ⌝ }
-    ensures { λ q. ⌜ (state q (now (held .exit)) (now (instances .exit)) (now (offsets .exit)) (now (outputs .exit)) (now (firsts .exit)) ≡ stepped (state r (now (held .entry)) (now (instances .entry)) (now (offsets .entry)) (now (outputs .entry)) (now (firsts .entry))) p (row w) (says x)) × (q .input ≤ 65537 + p) ⌝ }
+) -> Outcome
+    requires { ⌜ Ranged (says x) × Few r × (r .input ≤ 65536 + p) ⌝ }
+    ensures { λ t. ⌜ Turned (look (now (file .entry))) (state r (now (held .entry)) (now (instances .entry)) (now (offsets .entry)) (now (outputs .entry)) (now (firsts .entry))) p (says x) (t .refusal) (state (t .reader) (now (held .entry)) (now (instances .exit)) (now (offsets .exit)) (now (outputs .exit)) (now (firsts .exit))) ⌝ }
 {
-    let place = r.place;
     match x {
-        Record::Component(k, d) => begin(k, d, p, r.number + 1),
-        Record::Input(_) => moved(r, place.input()),
-        Record::Output(_) => moved(r, place.output()),
-        Record::Instance(_) => {
-            put_row(held, size(place.instances), w);
-            moved(r, place.instance())
+        Record::Component(k, d) => {
+            let no = component_refusal(r);
+            if no != 0 {
+                return answered(no, r);
+            }
+            answered(0, begin(k, d, p, r.number + 1))
+        }
+        Record::Input(q) => {
+            let no = input_refusal(r, q);
+            if no != 0 {
+                return answered(no, r);
+            }
+            let place = r.place;
+            answered(0, moved(r, place.input()))
+        }
+        Record::Output(q) => {
+            let no = output_refusal(r, q);
+            if no != 0 {
+                return answered(no, r);
+            }
+            let place = r.place;
+            answered(0, moved(r, place.output()))
+        }
+        Record::Instance(c) => {
+            let no = instance_refusal(r, c);
+            if no != 0 {
+                return answered(no, r);
+            }
+            let place = r.place;
+            answered(0, moved(r, place.instance()))
         }
         Record::Invocation(n, k) => {
+            let no = invocation_refusal(r, n, k, held, instances, offsets);
+            if no != 0 {
+                return answered(no, r);
+            }
+            let place = r.place;
             let v = row_of(held, size(n));
-            let j = size(place.invocations);
+            let j = place.invocations;
             instances[j] = n;
             offsets[j] = k;
             outputs[j] = v.outputs;
             firsts[j] = wide(v.first) + 1 + wide(v.inputs);
-            Reader {
-                place: place.invocation(v.inputs),
-                delay: r.delay,
-                first: r.first,
-                number: r.number,
-                input: wide(v.first) + 1,
-                offset: k,
-            }
+            answered(
+                0,
+                Reader {
+                    place: place.invocation(size(v.inputs)),
+                    delay: r.delay,
+                    number: r.number,
+                    first: r.first,
+                    input: size(v.first) + 1,
+                    offset: k,
+                },
+            )
         }
-        Record::Argument(_) => Reader {
-            place: place.argument(),
-            delay: r.delay,
-            first: r.first,
-            number: r.number,
-            input: r.input + 1,
-            offset: r.offset,
-        },
-        Record::Connection(_) => moved(r, place.connection()),
-        Record::Wrong => r,
+        Record::Argument(a) => {
+            let s = a.source;
+            let no = argument_refusal(file, r, s, offsets, outputs, firsts);
+            if no != 0 {
+                return answered(no, r);
+            }
+            let place = r.place;
+            answered(
+                0,
+                Reader {
+                    place: place.argument(),
+                    delay: r.delay,
+                    number: r.number,
+                    first: r.first,
+                    input: r.input + 1,
+                    offset: r.offset,
+                },
+            )
+        }
+        Record::Connection(s) => {
+            let no = connection_refusal(file, r, s, offsets, outputs, firsts);
+            if no != 0 {
+                return answered(no, r);
+            }
+            let place = r.place;
+            answered(0, moved(r, place.connection()))
+        }
+        Record::Wrong => answered(4, r),
+    }
+}
+
+// What is kept before the first record.
+pub fn start() -> Reader
+    ensures { λ q. ⌜ ((h i o u f : List ℕ) → state q h i o u f ≡ before h i o u f) ⌝ }
+{
+    Reader {
+        place: order::begun(false),
+        delay: 0,
+        number: 0,
+        first: 0,
+        input: 0,
+        offset: 0,
     }
 }
 
 // What is kept after the first record.
 pub fn opened(x: Record) -> Reader
-    ensures { λ q. ⌜ (state q [] [] [] [] [] ≡ opened (state q [] [] [] [] []) (says x)) × (q .input ≡ 0) ⌝ }
+    ensures { λ q. ⌜ ((h i o u f : List ℕ) → state q h i o u f ≡ opened (state q h i o u f) (says x)) × (q .input ≡ 0) ⌝ }
 {
     match x {
         Record::Component(k, d) => begin(k, d, 0, 0),

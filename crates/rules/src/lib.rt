@@ -10,6 +10,12 @@ ghost use Rattle.rules.specs.Lowest.{lowest};
 ghost use Rattle.rules.specs.Calls.{no-look, calls};
 use records::Port;
 
+fn size(x: u16) -> usize
+    ensures { λ r. ⌜ (r ≡ x) × (r < 65536) ⌝ }
+{
+    x as usize
+}
+
 fn wide(x: u16) -> u32
     ensures { λ r. ⌜ (r ≡ x) × (r < 65536) ⌝ }
 {
@@ -66,7 +72,7 @@ fn apart(
 
 // 7, 10 and 11 of an invocation of instance n, of so many instances, after `count` invocations.
 pub fn invocation_refusal(
-    instances: u16,
+    instances: usize,
     delay: u16,
     instance: &[u16; 64],
     offset: &[u16; 64],
@@ -81,7 +87,7 @@ pub fn invocation_refusal(
     let a = apart(instance, offset, count, n, k, d, delay);
     let alone = d <= delay;
     first(
-        n < instances,
+        size(n) < instances,
         7,
         first(a.spaced, 10, first(alone & a.spans, 11, 0)),
     )

@@ -1,0 +1,6 @@
+pub mod Rows
+pub mod Keeps
+pub mod Whole
+pub mod Turns
+pub mod Reached
+pub mod Counts
