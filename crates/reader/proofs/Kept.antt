@@ -32,9 +32,9 @@ module _ (held instances offsets outputs firsts : List ℕ) (r : Reader) where
   pub kept-place : (q : Reader) (s : Place) (x : Reading.Place) → q ≡ placed r s → seen s ≡ x → state q held instances offsets outputs firsts ≡ at-place (state r held instances offsets outputs firsts) x
   kept-place q s x e f = rw (e, f)
 
-  pub kept-invocation : (q : Reader) (s : Place) (v : Signature) (n at k j a b f m : ℕ) → row v ≡ row-in held at → at ≡ n → j ≡ r .place .invocations → a ≡ v .first → b ≡ v .inputs → f ≡ v .first → m ≡ v .inputs
+  pub kept-invocation : (q : Reader) (s : Place) (v : Signature) (n at k j a b f m d : ℕ) → row v ≡ row-in held at → at ≡ n → j ≡ r .place .invocations → a ≡ v .first → b ≡ v .inputs → f ≡ v .first → m ≡ v .inputs → d ≡ k
       → seen s ≡ moved (seen (r .place)) (invocation no-call) m
-      → q ≡ record { place = s; delay = r .delay; number = r .number; first = r .first; input = f + 1; offset = k }
+      → q ≡ record { place = s; delay = r .delay; number = r .number; first = r .first; input = f + 1; offset = d }
       → state
       q
       held
@@ -43,12 +43,12 @@ module _ (held instances offsets outputs firsts : List ℕ) (r : Reader) where
       (set outputs j (v .outputs))
       (set firsts j (a + 1 + b))
       ≡ part-went (state r held instances offsets outputs firsts) (invocation (record { instance = n; offset = k }))
-  kept-invocation q s v n at k j a b f m e c g h i l o x w =
+  kept-invocation q s v n at k j a b f m d e c g h i l o y′ x w =
       let y : row v ≡ row-in held n = e ∙ ap (λ (z : ℕ). row-in held z) c in
       let p : v .first ≡ (row-in held n) .first = ap (λ (z : Row). z .first) y in
       let t : v .inputs ≡ (row-in held n) .inputs = ap (λ (z : Row). z .inputs) y in
       let u : v .outputs ≡ (row-in held n) .outputs = ap (λ (z : Row). z .outputs) y in
-      rw (w, x, g, h, i, l, o, p, t, u)
+      rw (w, x, g, h, i, l, o, y′, p, t, u)
 
   pub kept-argument : (s : Place) (x : Design.Source) → seen s ≡ moved (seen (r .place)) (argument x) 0
       → state

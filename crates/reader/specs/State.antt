@@ -211,6 +211,9 @@ pub record Few (r : Reader) : Type 0 where
   pub inputs : r .place .inputs ≤ 16
   pub outputs : r .place .outputs ≤ 16
   pub connections : r .place .connections ≤ 16
+  pub delay : r .delay < 65536
+  pub first : r .first < 65536
+  pub offset : r .offset < 65536
 
 -- After record x, number p, in state s: the number of its refusal, and the next state where there is none.
 pub record Turned (look : ℕ → Port) (s : State) (p : ℕ) (x : Record) (refusal : ℕ) (s′ : State) : Type 0 where

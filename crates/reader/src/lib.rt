@@ -36,11 +36,11 @@ pub struct Signature {
 // Of the component that is being read; and while an argument is due, the record of the input that it feeds and the invocation's offset.
 pub struct Reader {
     pub place: Place,
-    pub delay: u16,
+    pub delay: usize,
     pub number: usize,
-    pub first: u16,
+    pub first: usize,
     pub input: usize,
-    pub offset: u16,
+    pub offset: usize,
 }
 
 fn size(x: u16) -> usize
@@ -126,10 +126,11 @@ fn component_refusal(r: Reader) -> u8
 }
 
 fn input_refusal(r: Reader, p: Port) -> u8
+    requires { ⌜ Few r ⌝ }
     ensures { λ n. ⌜ n ≡ lowest (part-tests no-look (bare r) (input (port p))) ⌝ }
 {
     let place = r.place;
-    let short = rules::interval_kept(p, r.delay);
+    let short = rules::interval_kept(p, half(r.delay));
     rules::first(
         place.may_input(),
         5,
@@ -138,10 +139,11 @@ fn input_refusal(r: Reader, p: Port) -> u8
 }
 
 fn output_refusal(r: Reader, p: Port) -> u8
+    requires { ⌜ Few r ⌝ }
     ensures { λ n. ⌜ n ≡ lowest (part-tests no-look (bare r) (output (port p))) ⌝ }
 {
     let place = r.place;
-    let short = rules::interval_kept(p, r.delay);
+    let short = rules::interval_kept(p, half(r.delay));
     rules::first(
         place.may_output(),
         5,
@@ -174,7 +176,7 @@ fn invocation_refusal(
     instances: &[u16; 64],
     offsets: &[u16; 64],
 ) -> u8
-    requires { ⌜ n < 32 ⌝ }
+    requires { ⌜ (n < 32) × Few r ⌝ }
     ensures { λ x. ⌜ x ≡ lowest (part-tests no-look (viewed [] (state r (now (held .entry)) (now (instances .entry)) (now (offsets .entry)) [] [])) (invocation (record { instance = n; offset = k }))) ⌝ }
 {
     let place = r.place;
@@ -188,7 +190,7 @@ fn invocation_refusal(
         5,
         rules::invocation_refusal(
             place.instances,
-            r.delay,
+            half(r.delay),
             instances,
             offsets,
             place.invocations,
@@ -211,13 +213,13 @@ fn source_refusal(
     outputs: &[u16; 64],
     firsts: &[u32; 64],
 ) -> u8
-    requires { ⌜ Source-range (source x) ⌝ }
+    requires { ⌜ (Source-range (source x)) × Few r ⌝ }
     ensures { λ n. ⌜ n ≡ lowest (source-tests (look (now (file .entry))) (viewed [] (state r [] [] (now (offsets .entry)) (now (outputs .entry)) (now (firsts .entry)))) before (source x) (port q) k) ⌝ }
 {
     match x {
         Source::Own(i) => {
             let place = r.place;
-            let p = look::port_at(file, size(r.first) + 1 + size(i));
+            let p = look::port_at(file, r.first + 1 + size(i));
             rules::fed_refusal(size(i) < place.inputs, p, 0, q, k)
         }
         Source::Output(j, o) => {
@@ -238,7 +240,7 @@ fn argument_refusal(
     outputs: &[u16; 64],
     firsts: &[u32; 64],
 ) -> u8
-    requires { ⌜ (Source-range (source x)) × (r .input < 1048576) ⌝ }
+    requires { ⌜ (Source-range (source x)) × Few r × (r .input < 1048576) ⌝ }
     ensures { λ n. ⌜ n ≡ lowest (part-tests (look (now (file .entry))) (viewed [] (state r [] [] (now (offsets .entry)) (now (outputs .entry)) (now (firsts .entry)))) (argument (source x))) ⌝ }
 {
     let place = r.place;
@@ -248,7 +250,17 @@ fn argument_refusal(
     rules::first(
         place.may_argument(),
         5,
-        source_refusal(file, r, before, x, q, r.offset, offsets, outputs, firsts),
+        source_refusal(
+            file,
+            r,
+            before,
+            x,
+            q,
+            half(r.offset),
+            offsets,
+            outputs,
+            firsts,
+        ),
     )
 }
 
@@ -264,7 +276,7 @@ fn connection_refusal(
     ensures { λ n. ⌜ n ≡ lowest (part-tests (look (now (file .entry))) (viewed [] (state r [] [] (now (offsets .entry)) (now (outputs .entry)) (now (firsts .entry)))) (connection (source x))) ⌝ }
 {
     let place = r.place;
-    let q = look::port_at(file, size(r.first) + 1 + place.inputs + place.connections);
+    let q = look::port_at(file, r.first + 1 + place.inputs + place.connections);
     rules::first(
         place.may_connection(),
         5,
@@ -338,10 +350,10 @@ pub fn own_row(r: Reader) -> Signature
     let place = r.place;
     Signature {
         built: place.built,
-        delay: r.delay,
+        delay: half(r.delay),
         inputs: half(place.inputs),
         outputs: half(place.outputs),
-        first: r.first,
+        first: half(r.first),
     }
 }
 
@@ -366,8 +378,8 @@ fn begin(k: Class, delay: u16, first: u16, number: usize) -> Reader
     let built = is_built(k);
     Reader {
         place: order::begun(built),
-        delay,
-        first,
+        delay: size(delay),
+        first: size(first),
         number,
         input: 0,
         offset: 0,
@@ -453,7 +465,7 @@ pub fn turn(
                     number: r.number,
                     first: r.first,
                     input: size(v.first) + 1,
-                    offset: k,
+                    offset: size(k),
                 },
             )
         }

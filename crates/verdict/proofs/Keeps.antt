@@ -33,15 +33,15 @@ connection-below true false m n t = absurd t
 connection-below false c m n t = absurd t
 
 module _ (look : ℕ → Port) where
-  pub own-next : (s : Run) (p : ℕ) (x : Record) → Own s → Ranged x → Passes (tests look (view s) x) → Step (view s) p x (view (next s p x)) × Own (next s p x)
-  own-next (waits rows s) p wrong f r t = (tt, f)
-  own-next (waits rows s) p (component k d) f r t = (
+  pub own-next : (s : Run) (p : ℕ) (x : Record) → p < 65536 → Own s → Ranged x → Passes (tests look (view s) x) → Step (view s) p x (view (next s p x)) × Own (next s p x)
+  own-next (waits rows s) p wrong b f r t = (tt, f)
+  own-next (waits rows s) p (component k d) b f r t = (
     record { place = refl; delay = refl; first = refl; number = refl },
-    record { table = f .table; held = f .held; instances = f .instances; offsets = f .offsets; outputs = f .outputs; output-records = f .output-records; number = omega arith; few-inputs = omega arith; few-outputs = omega arith; few-connections = omega arith },
+    record { table = f .table; held = f .held; instances = f .instances; offsets = f .offsets; outputs = f .outputs; output-records = f .output-records; number = omega arith; few-inputs = omega arith; few-outputs = omega arith; few-connections = omega arith; small-delay = (let m = r .1 in omega arith); small-first = b; small-offset = omega arith },
   )
-  own-next (waits rows s) p (part x) f r t = (tt, f)
-  own-next (reads rows s) p wrong f r t = (tt, f)
-  own-next (reads rows s) p (component k d) f r t =
+  own-next (waits rows s) p (part x) b f r t = (tt, f)
+  own-next (reads rows s) p wrong b f r t = (tt, f)
+  own-next (reads rows s) p (component k d) b f r t =
       let l = f .number in
       let h = f .table in
       let fits : 5 * s .number + 5 ≤ length rows = omega arith in
@@ -50,19 +50,19 @@ module _ (look : ℕ → Port) where
           record { place = refl; delay = refl; first = refl; number = refl },
           record { old = λ c b. row-elsewhere rows (s .number) (own-row s) c (λ z. absurd (omega arith)); new = row-there rows (s .number) (own-row s) fits },
         ),
-        record { table = rw (length-put rows (s .number) (own-row s)) (f .table); held = f .held; instances = f .instances; offsets = f .offsets; outputs = f .outputs; output-records = f .output-records; number = ltb→lt _ _ (t .1 .1 .0); few-inputs = omega arith; few-outputs = omega arith; few-connections = omega arith },
+        record { table = rw (length-put rows (s .number) (own-row s)) (f .table); held = f .held; instances = f .instances; offsets = f .offsets; outputs = f .outputs; output-records = f .output-records; number = ltb→lt _ _ (t .1 .1 .0); few-inputs = omega arith; few-outputs = omega arith; few-connections = omega arith; small-delay = (let m = r .1 in omega arith); small-first = b; small-offset = omega arith },
       )
-  own-next (reads rows s) p (part (input q)) f r t =
+  own-next (reads rows s) p (part (input q)) b f r t =
       let l = ltb→lt (s .place .inputs) 16 (t .1 .1 .0) in (
         (record { delay = refl; first = refl; number = refl; row = λ c l. refl; held = λ n l. refl; call = λ j l. record { instance = refl; offset = refl; outputs = refl; output-record = refl } }, refl),
-        record { table = f .table; held = f .held; instances = f .instances; offsets = f .offsets; outputs = f .outputs; output-records = f .output-records; number = f .number; few-inputs = omega arith; few-outputs = f .few-outputs; few-connections = f .few-connections },
+        record { table = f .table; held = f .held; instances = f .instances; offsets = f .offsets; outputs = f .outputs; output-records = f .output-records; number = f .number; few-inputs = omega arith; few-outputs = f .few-outputs; few-connections = f .few-connections; small-delay = f .small-delay; small-first = f .small-first; small-offset = f .small-offset },
       )
-  own-next (reads rows s) p (part (output q)) f r t =
+  own-next (reads rows s) p (part (output q)) b f r t =
       let l = ltb→lt (s .place .outputs) 16 (t .1 .1 .0) in (
         (record { delay = refl; first = refl; number = refl; row = λ c l. refl; held = λ n l. refl; call = λ j l. record { instance = refl; offset = refl; outputs = refl; output-record = refl } }, refl),
-        record { table = f .table; held = f .held; instances = f .instances; offsets = f .offsets; outputs = f .outputs; output-records = f .output-records; number = f .number; few-inputs = f .few-inputs; few-outputs = omega arith; few-connections = f .few-connections },
+        record { table = f .table; held = f .held; instances = f .instances; offsets = f .offsets; outputs = f .outputs; output-records = f .output-records; number = f .number; few-inputs = f .few-inputs; few-outputs = omega arith; few-connections = f .few-connections; small-delay = f .small-delay; small-first = f .small-first; small-offset = f .small-offset },
       )
-  own-next (reads rows s) p (part (instance n)) f r t =
+  own-next (reads rows s) p (part (instance n)) b f r t =
       let l = ltb→lt (s .place .instances) 32 (t .1 .1 .0) in
       let h = f .held in
       let fits : 5 * s .place .instances + 5 ≤ length (s .held) = omega arith in
@@ -73,9 +73,9 @@ module _ (look : ℕ → Port) where
           refl,
           row-there (s .held) (s .place .instances) w fits,
         ),
-        record { table = f .table; held = length-put (s .held) (s .place .instances) w ∙ f .held; instances = f .instances; offsets = f .offsets; outputs = f .outputs; output-records = f .output-records; number = f .number; few-inputs = f .few-inputs; few-outputs = f .few-outputs; few-connections = f .few-connections },
+        record { table = f .table; held = length-put (s .held) (s .place .instances) w ∙ f .held; instances = f .instances; offsets = f .offsets; outputs = f .outputs; output-records = f .output-records; number = f .number; few-inputs = f .few-inputs; few-outputs = f .few-outputs; few-connections = f .few-connections; small-delay = f .small-delay; small-first = f .small-first; small-offset = f .small-offset },
       )
-  own-next (reads rows s) p (part (invocation v)) f r t =
+  own-next (reads rows s) p (part (invocation v)) small f r t =
       let l = ltb→lt (s .place .invocations) 64 (t .1 .1 .0) in
       let j = s .place .invocations in
       let w = row-in (s .held) (v .instance) in
@@ -118,15 +118,18 @@ module _ (look : ℕ → Port) where
           few-inputs = f .few-inputs;
           few-outputs = f .few-outputs;
           few-connections = f .few-connections;
+          small-delay = f .small-delay;
+          small-first = f .small-first;
+          small-offset = (let m = r .1 in omega arith);
         },
       )
-  own-next (reads rows s) p (part (argument x)) f r t = (
+  own-next (reads rows s) p (part (argument x)) b f r t = (
     (record { delay = refl; first = refl; number = refl; row = λ c l. refl; held = λ n l. refl; call = λ j l. record { instance = refl; offset = refl; outputs = refl; output-record = refl } }, refl, refl, refl),
-    record { table = f .table; held = f .held; instances = f .instances; offsets = f .offsets; outputs = f .outputs; output-records = f .output-records; number = f .number; few-inputs = f .few-inputs; few-outputs = f .few-outputs; few-connections = f .few-connections },
+    record { table = f .table; held = f .held; instances = f .instances; offsets = f .offsets; outputs = f .outputs; output-records = f .output-records; number = f .number; few-inputs = f .few-inputs; few-outputs = f .few-outputs; few-connections = f .few-connections; small-delay = f .small-delay; small-first = f .small-first; small-offset = f .small-offset },
   )
-  own-next (reads rows s) p (part (connection x)) f r t =
+  own-next (reads rows s) p (part (connection x)) b f r t =
       let l = connection-below (s .place .built) (eqb (s .place .due) 0) (s .place .connections) (s .place .outputs) (t .1 .0) in
       let m = f .few-outputs in (
         (record { delay = refl; first = refl; number = refl; row = λ c l. refl; held = λ n l. refl; call = λ j l. record { instance = refl; offset = refl; outputs = refl; output-record = refl } }, refl),
-        record { table = f .table; held = f .held; instances = f .instances; offsets = f .offsets; outputs = f .outputs; output-records = f .output-records; number = f .number; few-inputs = f .few-inputs; few-outputs = f .few-outputs; few-connections = omega arith },
+        record { table = f .table; held = f .held; instances = f .instances; offsets = f .offsets; outputs = f .outputs; output-records = f .output-records; number = f .number; few-inputs = f .few-inputs; few-outputs = f .few-outputs; few-connections = omega arith; small-delay = f .small-delay; small-first = f .small-first; small-offset = f .small-offset },
       )

@@ -46,7 +46,7 @@ reached-first file n rows s e l =
     rw e
     (record {
       below = omega arith;
-      fit = record { table = l; held = refl; instances = refl; offsets = refl; outputs = refl; output-records = refl; number = omega arith; few-inputs = omega arith; few-outputs = omega arith; few-connections = omega arith };
+      fit = record { table = l; held = refl; instances = refl; offsets = refl; outputs = refl; output-records = refl; number = omega arith; few-inputs = omega arith; few-outputs = omega arith; few-connections = omega arith; small-delay = omega arith; small-first = omega arith; small-offset = omega arith };
       input = omega arith;
       answer = refl;
       leads-to = refl;
@@ -54,7 +54,7 @@ reached-first file n rows s e l =
     })
 
 pub few-of : (rows : List ℕ) (r : Reader) (h i o u f : List ℕ) → Fit rows (state r h i o u f) → Few r
-few-of rows r h i o u f w = record { number = w .number; inputs = w .few-inputs; outputs = w .few-outputs; connections = w .few-connections }
+few-of rows r h i o u f w = record { number = w .number; inputs = w .few-inputs; outputs = w .few-outputs; connections = w .few-connections; delay = w .small-delay; first = w .small-first; offset = w .small-offset }
 
 pub positive : (i : ℕ) → i ≢ 0 → 0 < i
 positive zero d = absurd (d refl)
@@ -76,7 +76,7 @@ module _ (file : List ℕ) (n : ℕ) (rows₀ rows : List ℕ) (x : Record) wher
     first-more z a q e b =
         let s = waits rows (state r h i o u f) in
         let k : reads rows (state q h i o u f) ≡ next (waits rows (state r h i o u f)) 0 x = first-next rows r q h i o u f x m t z e in
-        let w : Own (reads rows (state q h i o u f)) = subst (λ (y : Run). Own y) (sym k) (owns file n 0 l s x is m seen-first z a (at .fit)) in
+        let w : Own (reads rows (state q h i o u f)) = subst (λ (y : Run). Own y) (sym k) (owns file n 0 l s x is m seen-first z (omega arith) a (at .fit)) in
         record {
           below = omega arith;
           fit = w;
@@ -100,9 +100,9 @@ module _ (file : List ℕ) (n : ℕ) (rows₀ rows : List ℕ) (x : Record) wher
     pub later-range : m ≢ 0 → (4 ≤ m) × (m ≤ 12)
     later-range d = range file n p l (reads rows s) x is m seen-later d
 
-    pub later-more : m ≡ 0 → Ranged x → (rows′ : List ℕ) (s′ : State) → reads rows′ s′ ≡ next (reads rows s) p x → s′ .input-record ≤ 65536 + (p + 1) → length rows′ ≡ length rows → Reached file n rows₀ rows′ s′ (p + 1)
-    later-more z a rows′ s′ k b g =
-        let w : Own (reads rows′ s′) = subst (λ (y : Run). Own y) (sym k) (owns file n p l (reads rows s) x is m seen-later z a (at .fit)) in
+    pub later-more : m ≡ 0 → p < 65536 → Ranged x → (rows′ : List ℕ) (s′ : State) → reads rows′ s′ ≡ next (reads rows s) p x → s′ .input-record ≤ 65536 + (p + 1) → length rows′ ≡ length rows → Reached file n rows₀ rows′ s′ (p + 1)
+    later-more z small a rows′ s′ k b g =
+        let w : Own (reads rows′ s′) = subst (λ (y : Run). Own y) (sym k) (owns file n p l (reads rows s) x is m seen-later z small a (at .fit)) in
         let y : after (p + 1) rows′ s′ ≡ next (reads rows s) p x = after-some (p + 1) rows′ s′ (omega arith) ∙ k in
         record {
           below = omega arith;

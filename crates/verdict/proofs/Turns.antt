@@ -80,8 +80,8 @@ module _ (file : List ℕ) (n : ℕ) (i : ℕ) where
       pub range : m ≢ 0 → (4 ≤ m) × (m ≤ 12)
       range d = rw t (lowest-range (tests (look file) (view s) x) (numbered (look file) (view s) x) (rw t at d))
 
-      pub owns : m ≡ 0 → Ranged x → Own s → Own (next s i x)
-      owns z r o = own-next (look file) s i x o r (passes (tests (look file) (view s) x) (numbered (look file) (view s) x) (sym t ∙ z)) .1
+      pub owns : m ≡ 0 → i < 65536 → Ranged x → Own s → Own (next s i x)
+      owns z b r o = own-next (look file) s i x b o r (passes (tests (look file) (view s) x) (numbered (look file) (view s) x) (sym t ∙ z)) .1
 
   module _ (l : n ≤ i) where
     from-none : from file n i ≡ []

@@ -27,6 +27,7 @@ use Rattle.verdict.proofs.Keeps.{own-next}
 -- What is known of the bytes: n records stand in them.
 pub record Holds (file : List ℕ) (n : ℕ) : Type 0 where
   pub within : n ≤ 31 * (length file / 512)
+  pub few : n ≤ 3968
   pub small : Bytes file
 
 module _ (file : List ℕ) where
@@ -48,23 +49,24 @@ module _ (file : List ℕ) where
     in-file : (j : ℕ) → j < n → record-place j + 16 ≤ length file
     in-file j l = let w = h .within in omega arith
 
-    looked : (j : ℕ) (x : Record) → At (records-of file n) j x → (decoded (sixteen file j) ≡ x) × (record-place j + 16 ≤ length file)
+    looked : (j : ℕ) (x : Record) → At (records-of file n) j x → (decoded (sixteen file j) ≡ x) × (record-place j + 16 ≤ length file) × (j < 65536)
     looked j x a =
         let l : j < n = rw (length-from 0 n) at (a .below) in
-        (sym (record-there n j wrong l) ∙ a .is wrong, in-file j l)
+        let m = h .few in
+        (sym (record-there n j wrong l) ∙ a .is wrong, in-file j l, omega arith)
 
     right : Reads Run view next Own (records-of file n) (look file)
     right =
         record {
           ranged = λ j l. (let m : j < n = rw (length-from 0 n) at l in rw (record-there n j wrong m) (decoded-ranged (sixteen file j) (sixteen-small file j (h .small))));
           looks = λ j p. (λ a. (let w = looked j (part (input p)) a in look-is file j (w .1) ∙ input-port (sixteen file j) (sixteen-small file j (h .small)) p (w .0)), λ a. (let w = looked j (part (output p)) a in look-is file j (w .1) ∙ output-port (sixteen file j) (sixteen-small file j (h .small)) p (w .0)));
-          keeps = λ s p x o a t. (let w = looked p x a in let r : Ranged x = rw (w .0) at (decoded-ranged (sixteen file p) (sixteen-small file p (h .small))) in own-next (look file) s p x o r t);
+          keeps = λ s p x o a t. (let w = looked p x a in let r : Ranged x = rw (w .0) at (decoded-ranged (sixteen file p) (sixteen-small file p (h .small))) in own-next (look file) s p x (w .2) o r t);
         }
 
     module _ (rows : List ℕ) (long : 320 ≤ length rows) where
       fits : Fit rows empty
       fits =
-          record { table = long; held = refl; instances = refl; offsets = refl; outputs = refl; output-records = refl; number = omega arith; few-inputs = omega arith; few-outputs = omega arith; few-connections = omega arith }
+          record { table = long; held = refl; instances = refl; offsets = refl; outputs = refl; output-records = refl; number = omega arith; few-inputs = omega arith; few-outputs = omega arith; few-connections = omega arith; small-delay = omega arith; small-first = omega arith; small-offset = omega arith }
 
       pub whole : verdict (records-of file n) ≡ rest file n (waits rows empty) 0
       whole = rw (sub-zero n) (Reading.answer-verdict Run view next Own (records-of file n) (look file) right (waits rows empty) refl fits)

@@ -55,6 +55,9 @@ pub record Fit (rows : List ℕ) (s : State) : Type 0 where
   pub few-inputs : s .place .inputs ≤ 16
   pub few-outputs : s .place .outputs ≤ 16
   pub few-connections : s .place .connections ≤ 16
+  pub small-delay : s .delay < 65536
+  pub small-first : s .first < 65536
+  pub small-offset : s .due-offset < 65536
 
 abbrev pub Own : Run → Type 0
 Own (waits rows s) = Fit rows s

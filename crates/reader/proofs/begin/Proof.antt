@@ -10,8 +10,15 @@ is-built-requires c κs = search needs
 begun-requires : tie.Need-begun-requires
 begun-requires c κs = search needs
 
+size-requires : tie.Need-size-requires
+size-requires c κs = search needs
+
+size-requires-2 : tie.Need-size-requires-2
+size-requires-2 c κs = search needs
+
 returns : tie.Need-returns
-returns c = (c .begun .ensures ∙ ap begun (c .before .is-built .ensures), refl, refl, refl, refl, refl)
+returns c = (c .before .before .begun .ensures ∙ ap begun (c .before .before .before .is-built .ensures), c .before .size .ensures .0, c .size2 .ensures .0, refl, refl, refl)
 
 pub begin-spec : {M : Type 1} → statement M
-begin-spec = tie.close (tie.spec is-built-requires begun-requires returns)
+begin-spec =
+    tie.close (tie.spec is-built-requires begun-requires size-requires size-requires-2 returns)

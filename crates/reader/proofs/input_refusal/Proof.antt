@@ -2,6 +2,9 @@ use borrow.Author.Needs.{needs}
 use Rattle.reader.proofs.input_refusal.Statement.{statement}
 use Rattle.reader.proofs.input_refusal.Tie as tie
 
+half-requires : tie.Need-half-requires
+half-requires c κs = search needs
+
 interval-kept-requires : tie.Need-interval-kept-requires
 interval-kept-requires c κs = search needs
 
@@ -27,6 +30,7 @@ pub input-refusal-spec : {M : Type 1} → statement M
 input-refusal-spec =
     tie.close
     (tie.spec
+    half-requires
     interval-kept-requires
     may-input-requires
     room-for-input-requires

@@ -1,122 +1,85 @@
-use Prim.Native.Nat.{ℕ, zero, suc, _+_, _-_, _*_, _/_, _%_, _≤_, _<_}
-use mathlib.Core.Path.{_≡_, refl, ap, sym, _∙_}
-use mathlib.Core.List.{List, [], _∷_}
-use mathlib.Core.Bool.{Bool, true, false, cond, not, _&&_, _||_}
-use native.Mathlib.Omega.{arith}
-use native.Mathlib.Numerals.{add-one}
-use lib.ListN.{length, getD, take, drop, drop-of-length-le}
-use lib.Seq.{drop-cons}
-use lib.Dec.{ltb, leb, eqb}
-use borrow.Author.Tests.{lt-ltb, le-ltb, le-leb, lt-leb, eq-eqb, ne-eqb}
 use Rattle.reader.proofs.Kept.{kept-begin}
 use Rattle.timeline.specs.Design.{leaf}
 use borrow.Author.Needs.{needs}
 use Rattle.reader.proofs.opened.Statement.{statement}
 use Rattle.reader.proofs.opened.Tie as tie
-use Rattle.reader.proofs.opened.Reads as reads
-use Rattle.reader.proofs.opened.Lts as lts
-use Rattle.reader.proofs.begin.Reads as begin-reads
 
--- src/lib.rt:517:27
 enum-known-x : tie.Need-enum-known-x
 enum-known-x c = search needs
 
--- src/lib.rt:517:36
 begin-requires : tie.Need-begin-requires
 begin-requires c κs = search needs
 
--- src/lib.rt:518:35
 enum-told : tie.Need-enum-told
 enum-told c = search needs
 
--- src/lib.rt:518:29
 begin-requires-2 : tie.Need-begin-requires-2
 begin-requires-2 c κs = search needs
 
--- src/lib.rt:519:36
 enum-told-2 : tie.Need-enum-told-2
 enum-told-2 c = search needs
 
--- src/lib.rt:519:30
 begin-requires-3 : tie.Need-begin-requires-3
 begin-requires-3 c κs = search needs
 
--- src/lib.rt:520:38
 enum-told-3 : tie.Need-enum-told-3
 enum-told-3 c = search needs
 
--- src/lib.rt:520:32
 begin-requires-4 : tie.Need-begin-requires-4
 begin-requires-4 c κs = search needs
 
--- src/lib.rt:521:43
 enum-told-4 : tie.Need-enum-told-4
 enum-told-4 c = search needs
 
--- src/lib.rt:521:37
 begin-requires-5 : tie.Need-begin-requires-5
 begin-requires-5 c κs = search needs
 
--- src/lib.rt:522:38
 enum-told-5 : tie.Need-enum-told-5
 enum-told-5 c = search needs
 
--- src/lib.rt:522:32
 begin-requires-6 : tie.Need-begin-requires-6
 begin-requires-6 c κs = search needs
 
--- src/lib.rt:523:40
 enum-told-6 : tie.Need-enum-told-6
 enum-told-6 c = search needs
 
--- src/lib.rt:523:34
 begin-requires-7 : tie.Need-begin-requires-7
 begin-requires-7 c κs = search needs
 
--- src/lib.rt:524:32
 enum-told-7 : tie.Need-enum-told-7
 enum-told-7 c = search needs
 
--- src/lib.rt:524:26
 begin-requires-8 : tie.Need-begin-requires-8
 begin-requires-8 c κs = search needs
 
--- src/lib.rt:513:1
 returns : tie.Need-returns
 returns c = let e = c .begin .ensures in
     ((λ h i o u f. rw (c .before .before .x .given .1) (kept-begin h i o u f (c .begin .result) (c .begin .result) _ _ _ _ (e .0) (e .1) (e .2) (e .3) (e .4) (e .5))), e .4)
 
--- src/lib.rt:513:1
 returns-2 : tie.Need-returns-2
 returns-2 c = let e = c .begin2 .ensures in
     ((λ h i o u f. rw (c .before .enum-told .given .1) (kept-begin h i o u f (c .begin2 .result) (c .begin2 .result) leaf 0 0 0 (e .0) (e .1) (e .2) (e .3) (e .4) (e .5))), e .4)
 
--- src/lib.rt:513:1
 returns-3 : tie.Need-returns-3
 returns-3 c = let e = c .begin3 .ensures in
     ((λ h i o u f. rw (c .before .enum-told2 .given .1) (kept-begin h i o u f (c .begin3 .result) (c .begin3 .result) leaf 0 0 0 (e .0) (e .1) (e .2) (e .3) (e .4) (e .5))), e .4)
 
--- src/lib.rt:513:1
 returns-4 : tie.Need-returns-4
 returns-4 c = let e = c .begin4 .ensures in
     ((λ h i o u f. rw (c .before .enum-told3 .given .1) (kept-begin h i o u f (c .begin4 .result) (c .begin4 .result) leaf 0 0 0 (e .0) (e .1) (e .2) (e .3) (e .4) (e .5))), e .4)
 
--- src/lib.rt:513:1
 returns-5 : tie.Need-returns-5
 returns-5 c = let e = c .begin5 .ensures in
     ((λ h i o u f. rw (c .before .enum-told4 .given .1) (kept-begin h i o u f (c .begin5 .result) (c .begin5 .result) leaf 0 0 0 (e .0) (e .1) (e .2) (e .3) (e .4) (e .5))), e .4)
 
--- src/lib.rt:513:1
 returns-6 : tie.Need-returns-6
 returns-6 c = let e = c .begin6 .ensures in
     ((λ h i o u f. rw (c .before .enum-told5 .given .1) (kept-begin h i o u f (c .begin6 .result) (c .begin6 .result) leaf 0 0 0 (e .0) (e .1) (e .2) (e .3) (e .4) (e .5))), e .4)
 
--- src/lib.rt:513:1
 returns-7 : tie.Need-returns-7
 returns-7 c = let e = c .begin7 .ensures in
     ((λ h i o u f. rw (c .before .enum-told6 .given .1) (kept-begin h i o u f (c .begin7 .result) (c .begin7 .result) leaf 0 0 0 (e .0) (e .1) (e .2) (e .3) (e .4) (e .5))), e .4)
 
--- src/lib.rt:513:1
 returns-8 : tie.Need-returns-8
 returns-8 c = let e = c .begin8 .ensures in
     ((λ h i o u f. rw (c .before .enum-told7 .given .1) (kept-begin h i o u f (c .begin8 .result) (c .begin8 .result) leaf 0 0 0 (e .0) (e .1) (e .2) (e .3) (e .4) (e .5))), e .4)

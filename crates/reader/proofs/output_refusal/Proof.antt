@@ -2,6 +2,9 @@ use borrow.Author.Needs.{needs}
 use Rattle.reader.proofs.output_refusal.Statement.{statement}
 use Rattle.reader.proofs.output_refusal.Tie as tie
 
+half-requires : tie.Need-half-requires
+half-requires c κs = search needs
+
 interval-kept-requires : tie.Need-interval-kept-requires
 interval-kept-requires c κs = search needs
 
@@ -27,6 +30,7 @@ pub output-refusal-spec : {M : Type 1} → statement M
 output-refusal-spec =
     tie.close
     (tie.spec
+    half-requires
     interval-kept-requires
     may-output-requires
     room-for-output-requires

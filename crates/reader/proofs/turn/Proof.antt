@@ -1,351 +1,248 @@
-use Prim.Native.Nat.{ℕ, zero, suc, _+_, _-_, _*_, _/_, _%_, _≤_, _<_}
+use Prim.Native.Nat.{ℕ}
 use mathlib.Core.Path.{_≡_, refl, ap, sym, _∙_}
-use mathlib.Core.List.{List, [], _∷_}
-use mathlib.Core.Bool.{Bool, true, false, cond, not, _&&_, _||_}
+use mathlib.Core.List.{[]}
 use native.Mathlib.Omega.{arith}
-use native.Mathlib.Numerals.{add-one}
-use lib.ListN.{length, getD, take, drop, drop-of-length-le}
-use lib.Seq.{drop-cons}
-use lib.Dec.{ltb, leb, eqb}
-use borrow.Author.Tests.{lt-ltb, le-ltb, le-leb, lt-leb, eq-eqb, ne-eqb}
-use Rattle.reader.proofs.Fed.{fed-as}
 use Rattle.reader.proofs.Passed.{room-input, room-output, room-instance, room-invocation, argument-due, connection-due}
 use Rattle.reader.proofs.Kept.{kept-begin, kept-place, kept-invocation, kept-argument, refused-turn, went-turn}
 use Rattle.reader.specs.declared.Reader.{Reader}
 use Rattle.order.specs.Seen.{seen}
-use Rattle.reader.specs.Rows.{row, row-in, put-row, bit}
-use Rattle.records.specs.Says.{says, source, port, class}
-use Rattle.reading.specs.Reads.{Ranged}
-use Rattle.rules.specs.Lowest.{lowest}
+use Rattle.reader.specs.Rows.{row-in}
+use Rattle.records.specs.Says.{source, port}
 use Rattle.rules.specs.Calls.{no-look}
 use Rattle.look.specs.Look.{look}
-use Rattle.reader.specs.State.{State, state, viewed, bare}
-use Rattle.reading.specs.Reader.{Row, waits, reads, tests, part-tests, source-tests}
-use Rattle.timeline.specs.Rules.{Source-range}
+use Rattle.reader.specs.State.{state, viewed, bare}
+use Rattle.reading.specs.Reader.{Row}
 use Rattle.timeline.specs.Design.{constant}
 use borrow.Author.Needs.{needs}
 use Rattle.reader.proofs.turn.Statement.{statement}
 use Rattle.reader.proofs.turn.Tie as tie
-use Rattle.reader.proofs.turn.Reads as reads
-use Rattle.reader.proofs.turn.Lts as lts
-use Rattle.order.proofs.Place.argument.Reads as argument-reads
-use Rattle.order.proofs.Place.connection.Reads as connection-reads
-use Rattle.order.proofs.Place.input.Reads as input-reads
-use Rattle.order.proofs.Place.instance.Reads as instance-reads
-use Rattle.order.proofs.Place.invocation.Reads as invocation-reads
-use Rattle.order.proofs.Place.output.Reads as output-reads
-use Rattle.reader.proofs.answered.Reads as answered-reads
-use Rattle.reader.proofs.argument_refusal.Reads as argument-refusal-reads
-use Rattle.reader.proofs.begin.Reads as begin-reads
-use Rattle.reader.proofs.component_refusal.Reads as component-refusal-reads
-use Rattle.reader.proofs.connection_refusal.Reads as connection-refusal-reads
-use Rattle.reader.proofs.input_refusal.Reads as input-refusal-reads
-use Rattle.reader.proofs.instance_refusal.Reads as instance-refusal-reads
-use Rattle.reader.proofs.invocation_refusal.Reads as invocation-refusal-reads
-use Rattle.reader.proofs.moved.Reads as moved-reads
-use Rattle.reader.proofs.output_refusal.Reads as output-refusal-reads
-use Rattle.reader.proofs.row_of.Reads as row-of-reads
-use Rattle.reader.proofs.size.Reads as size-reads
-use Rattle.reader.proofs.wide.Reads as wide-reads
 
--- src/lib.rt:412:27
 enum-known-x : tie.Need-enum-known-x
 enum-known-x c = search needs
 
--- src/lib.rt:413:17
 component-refusal-requires : tie.Need-component-refusal-requires
-component-refusal-requires c κs = search needs
+component-refusal-requires c κs = c .before .before .before .before .pre .1
 
--- src/lib.rt:415:17
 answered-requires : tie.Need-answered-requires
 answered-requires c κs = search needs
 
--- src/lib.rt:415:17
 returns : tie.Need-returns
 returns c = refused-turn _ _ _ _ _ (c .before .before .component-refusal .result) _ (rw (c .before .before .before .before .x .given .1) (c .before .before .component-refusal .ensures)) (c .answered .ensures .0) (c .before .if1 .taken)
 
--- src/lib.rt:417:40
 add-begin : tie.Need-add-begin
 add-begin c = omega (arith, c .before .before .before .before .before .before .before .pre .1 .number)
 
--- src/lib.rt:417:25
 begin-requires : tie.Need-begin-requires
 begin-requires c κs = search needs
 
--- src/lib.rt:417:13
 answered-requires-2 : tie.Need-answered-requires-2
 answered-requires-2 c κs = search needs
 
--- src/lib.rt:419:23
 enum-known-x-2 : tie.Need-enum-known-x-2
 enum-known-x-2 c = search needs
 
--- src/lib.rt:420:17
 input-refusal-requires : tie.Need-input-refusal-requires
-input-refusal-requires c κs = search needs
+input-refusal-requires c κs = c .before .before .before .before .pre .1
 
--- src/lib.rt:422:17
 answered-requires-3 : tie.Need-answered-requires-3
 answered-requires-3 c κs = search needs
 
--- src/lib.rt:422:17
 returns-2 : tie.Need-returns-2
 returns-2 c = refused-turn _ _ _ _ _ (c .before .before .input-refusal .result) _ (rw (c .before .before .before .before .x2 .given .1) (c .before .before .input-refusal .ensures)) (c .answered3 .ensures .0) (c .before .if2 .taken)
 
--- src/lib.rt:425:34
 input-requires : tie.Need-input-requires
 input-requires c κs = room-input no-look (bare (c .before .before .before .before .before .before .before .args .r)) (port (c .before .before .before .before .x2 .given .0 .0)) (sym (c .before .before .input-refusal .ensures) ∙ c .before .if2 .left)
 
--- src/lib.rt:425:25
 moved-requires : tie.Need-moved-requires
 moved-requires c κs = search needs
 
--- src/lib.rt:425:13
 answered-requires-4 : tie.Need-answered-requires-4
 answered-requires-4 c κs = search needs
 
--- src/lib.rt:427:24
 enum-known-x-3 : tie.Need-enum-known-x-3
 enum-known-x-3 c = search needs
 
--- src/lib.rt:428:17
 output-refusal-requires : tie.Need-output-refusal-requires
-output-refusal-requires c κs = search needs
+output-refusal-requires c κs = c .before .before .before .before .pre .1
 
--- src/lib.rt:430:17
 answered-requires-5 : tie.Need-answered-requires-5
 answered-requires-5 c κs = search needs
 
--- src/lib.rt:430:17
 returns-3 : tie.Need-returns-3
 returns-3 c = refused-turn _ _ _ _ _ (c .before .before .output-refusal .result) _ (rw (c .before .before .before .before .x3 .given .1) (c .before .before .output-refusal .ensures)) (c .answered5 .ensures .0) (c .before .if3 .taken)
 
--- src/lib.rt:433:34
 output-requires : tie.Need-output-requires
 output-requires c κs = room-output no-look (bare (c .before .before .before .before .before .before .before .args .r)) (port (c .before .before .before .before .x3 .given .0 .0)) (sym (c .before .before .output-refusal .ensures) ∙ c .before .if3 .left)
 
--- src/lib.rt:433:25
 moved-requires-2 : tie.Need-moved-requires-2
 moved-requires-2 c κs = search needs
 
--- src/lib.rt:433:13
 answered-requires-6 : tie.Need-answered-requires-6
 answered-requires-6 c κs = search needs
 
--- src/lib.rt:435:26
 enum-known-x-4 : tie.Need-enum-known-x-4
 enum-known-x-4 c = search needs
 
--- src/lib.rt:436:17
 instance-refusal-requires : tie.Need-instance-refusal-requires
 instance-refusal-requires c κs = search needs
 
--- src/lib.rt:438:17
 answered-requires-7 : tie.Need-answered-requires-7
 answered-requires-7 c κs = search needs
 
--- src/lib.rt:438:17
 returns-4 : tie.Need-returns-4
 returns-4 c = refused-turn _ _ _ _ _ (c .before .before .instance-refusal .result) _ (rw (c .before .before .before .before .x4 .given .1) (c .before .before .instance-refusal .ensures)) (c .answered7 .ensures .0) (c .before .if4 .taken)
 
--- src/lib.rt:441:34
 instance-requires : tie.Need-instance-requires
 instance-requires c κs = room-instance no-look (bare (c .before .before .before .before .before .before .before .args .r)) _ (sym (c .before .before .instance-refusal .ensures) ∙ c .before .if4 .left)
 
--- src/lib.rt:441:25
 moved-requires-3 : tie.Need-moved-requires-3
 moved-requires-3 c κs = search needs
 
--- src/lib.rt:441:13
 answered-requires-8 : tie.Need-answered-requires-8
 answered-requires-8 c κs = search needs
 
--- src/lib.rt:443:28
 enum-known-x-5 : tie.Need-enum-known-x-5
 enum-known-x-5 c = search needs
 
--- src/lib.rt:444:17
 invocation-refusal-requires : tie.Need-invocation-refusal-requires
-invocation-refusal-requires c κs = (rw (c .before .before .before .x5 .given .1) at (c .before .before .before .before .before .before .pre .0)) .0
+invocation-refusal-requires c κs = ((rw (c .before .before .before .x5 .given .1) at (c .before .before .before .before .before .before .pre .0)) .0, c .before .before .before .before .before .before .pre .1)
 
--- src/lib.rt:446:17
 answered-requires-9 : tie.Need-answered-requires-9
 answered-requires-9 c κs = search needs
 
--- src/lib.rt:446:17
 returns-5 : tie.Need-returns-5
 returns-5 c = refused-turn _ _ _ _ _ (c .before .before .invocation-refusal .result) _ (rw (c .before .before .before .before .before .before .x5 .given .1) (c .before .before .invocation-refusal .ensures)) (c .answered9 .ensures .0) (c .before .if5 .taken)
 
--- src/lib.rt:449:34
 size-requires : tie.Need-size-requires
 size-requires c κs = search needs
 
--- src/lib.rt:449:17
 row-of-requires : tie.Need-row-of-requires
 row-of-requires c κs = omega (arith, c .size .ensures .0, (rw (c .before .before .before .before .before .before .before .before .x5 .given .1) at (c .before .before .before .before .before .before .before .before .before .before .before .pre .0)) .0)
 
--- src/lib.rt:451:13
 mul-instances : tie.Need-mul-instances
 mul-instances c = omega (arith, (room-invocation no-look (viewed [] (state (c .before .before .before .before .before .before .before .before .before .before .before .before .args .r) (c .before .before .before .before .before .before .before .before .before .before .before .before .args .held .now) (c .before .before .before .before .before .before .before .before .before .before .before .before .args .instances .now) (c .before .before .before .before .before .before .before .before .before .before .before .before .args .offsets .now) [] [])) _ (sym (c .before .before .before .before .before .invocation-refusal .ensures) ∙ c .before .before .before .before .if5 .left)))
 
--- src/lib.rt:451:13
 element-write-instances : tie.Need-element-write-instances
 element-write-instances c = omega (arith, (room-invocation no-look (viewed [] (state (c .before .before .before .before .before .before .before .before .before .before .before .before .args .r) (c .before .before .before .before .before .before .before .before .before .before .before .before .args .held .now) (c .before .before .before .before .before .before .before .before .before .before .before .before .args .instances .now) (c .before .before .before .before .before .before .before .before .before .before .before .before .args .offsets .now) [] [])) _ (sym (c .before .before .before .before .before .invocation-refusal .ensures) ∙ c .before .before .before .before .if5 .left)))
 
--- src/lib.rt:452:13
 mul-offsets : tie.Need-mul-offsets
 mul-offsets c = omega (arith, (room-invocation no-look (viewed [] (state (c .before .before .before .before .before .before .before .before .before .before .before .before .args .r) (c .before .before .before .before .before .before .before .before .before .before .before .before .args .held .now) (c .before .before .before .before .before .before .before .before .before .before .before .before .args .instances .now) (c .before .before .before .before .before .before .before .before .before .before .before .before .args .offsets .now) [] [])) _ (sym (c .before .before .before .before .before .invocation-refusal .ensures) ∙ c .before .before .before .before .if5 .left)))
 
--- src/lib.rt:452:13
 element-write-offsets : tie.Need-element-write-offsets
 element-write-offsets c = omega (arith, (room-invocation no-look (viewed [] (state (c .before .before .before .before .before .before .before .before .before .before .before .before .args .r) (c .before .before .before .before .before .before .before .before .before .before .before .before .args .held .now) (c .before .before .before .before .before .before .before .before .before .before .before .before .args .instances .now) (c .before .before .before .before .before .before .before .before .before .before .before .before .args .offsets .now) [] [])) _ (sym (c .before .before .before .before .before .invocation-refusal .ensures) ∙ c .before .before .before .before .if5 .left)))
 
--- src/lib.rt:453:13
 mul-outputs : tie.Need-mul-outputs
 mul-outputs c = omega (arith, (room-invocation no-look (viewed [] (state (c .before .before .before .before .before .before .before .before .before .before .before .before .args .r) (c .before .before .before .before .before .before .before .before .before .before .before .before .args .held .now) (c .before .before .before .before .before .before .before .before .before .before .before .before .args .instances .now) (c .before .before .before .before .before .before .before .before .before .before .before .before .args .offsets .now) [] [])) _ (sym (c .before .before .before .before .before .invocation-refusal .ensures) ∙ c .before .before .before .before .if5 .left)))
 
--- src/lib.rt:453:13
 element-write-outputs : tie.Need-element-write-outputs
 element-write-outputs c = omega (arith, (room-invocation no-look (viewed [] (state (c .before .before .before .before .before .before .before .before .before .before .before .before .args .r) (c .before .before .before .before .before .before .before .before .before .before .before .before .args .held .now) (c .before .before .before .before .before .before .before .before .before .before .before .before .args .instances .now) (c .before .before .before .before .before .before .before .before .before .before .before .before .args .offsets .now) [] [])) _ (sym (c .before .before .before .before .before .invocation-refusal .ensures) ∙ c .before .before .before .before .if5 .left)))
 
--- src/lib.rt:454:25
 wide-requires : tie.Need-wide-requires
 wide-requires c κs = search needs
 
--- src/lib.rt:454:25
 add-firsts : tie.Need-add-firsts
 add-firsts c = search needs
 
--- src/lib.rt:454:45
 wide-requires-2 : tie.Need-wide-requires-2
 wide-requires-2 c κs = search needs
 
--- src/lib.rt:454:25
 add-firsts-2 : tie.Need-add-firsts-2
 add-firsts-2 c = search needs
 
--- src/lib.rt:454:13
 mul-firsts : tie.Need-mul-firsts
 mul-firsts c = omega (arith, (room-invocation no-look (viewed [] (state (c .before .before .before .before .before .before .before .before .before .before .before .before .before .before .args .r) (c .before .before .before .before .before .before .before .before .before .before .before .before .before .before .args .held .now) (c .before .before .before .before .before .before .before .before .before .before .before .before .before .before .args .instances .now) (c .before .before .before .before .before .before .before .before .before .before .before .before .before .before .args .offsets .now) [] [])) _ (sym (c .before .before .before .before .before .before .before .invocation-refusal .ensures) ∙ c .before .before .before .before .before .before .if5 .left)))
 
--- src/lib.rt:454:13
 element-write-firsts : tie.Need-element-write-firsts
 element-write-firsts c = omega (arith, (room-invocation no-look (viewed [] (state (c .before .before .before .before .before .before .before .before .before .before .before .before .before .before .args .r) (c .before .before .before .before .before .before .before .before .before .before .before .before .before .before .args .held .now) (c .before .before .before .before .before .before .before .before .before .before .before .before .before .before .args .instances .now) (c .before .before .before .before .before .before .before .before .before .before .before .before .before .before .args .offsets .now) [] [])) _ (sym (c .before .before .before .before .before .before .before .invocation-refusal .ensures) ∙ c .before .before .before .before .before .before .if5 .left)))
 
--- src/lib.rt:458:45
 size-requires-2 : tie.Need-size-requires-2
 size-requires-2 c κs = search needs
 
--- src/lib.rt:458:28
 invocation-requires : tie.Need-invocation-requires
 invocation-requires c κs = (room-invocation no-look (viewed [] (state (c .before .before .before .before .before .before .before .before .before .before .before .before .before .before .before .args .r) (c .before .before .before .before .before .before .before .before .before .before .before .before .before .before .before .args .held .now) (c .before .before .before .before .before .before .before .before .before .before .before .before .before .before .before .args .instances .now) (c .before .before .before .before .before .before .before .before .before .before .before .before .before .before .before .args .offsets .now) [] [])) _ (sym (c .before .before .before .before .before .before .before .before .invocation-refusal .ensures) ∙ c .before .before .before .before .before .before .before .if5 .left))
 
--- src/lib.rt:462:28
 size-requires-3 : tie.Need-size-requires-3
 size-requires-3 c κs = search needs
 
--- src/lib.rt:462:28
 add-t68 : tie.Need-add-t68
 add-t68 c = search needs
 
--- src/lib.rt:455:13
+size-requires-4 : tie.Need-size-requires-4
+size-requires-4 c κs = search needs
+
 answered-requires-10 : tie.Need-answered-requires-10
 answered-requires-10 c κs = search needs
 
--- src/lib.rt:467:26
 enum-known-x-6 : tie.Need-enum-known-x-6
 enum-known-x-6 c = search needs
 
--- src/lib.rt:469:17
 argument-refusal-requires : tie.Need-argument-refusal-requires
-argument-refusal-requires c κs = (rw (c .before .before .before .before .x6 .given .1) at (c .before .before .before .before .before .before .before .pre .0), omega (arith, c .before .before .before .before .before .before .before .pre .2))
+argument-refusal-requires c κs = (rw (c .before .before .before .before .x6 .given .1) at (c .before .before .before .before .before .before .before .pre .0), c .before .before .before .before .before .before .before .pre .1, omega (arith, c .before .before .before .before .before .before .before .pre .2))
 
--- src/lib.rt:471:17
 answered-requires-11 : tie.Need-answered-requires-11
 answered-requires-11 c κs = search needs
 
--- src/lib.rt:471:17
 returns-6 : tie.Need-returns-6
 returns-6 c = refused-turn _ _ _ _ _ (c .before .before .argument-refusal .result) _ (rw (c .before .before .before .before .before .before .before .x6 .given .1) (c .before .before .argument-refusal .ensures)) (c .answered11 .ensures .0) (c .before .if6 .taken)
 
--- src/lib.rt:477:28
 argument-requires : tie.Need-argument-requires
 argument-requires c κs = argument-due (look (c .before .before .before .before .before .before .before .before .before .before .args .file .now)) (viewed [] (state (c .before .before .before .before .before .before .before .before .before .before .args .r) [] [] (c .before .before .before .before .before .before .before .before .before .before .args .offsets .now) (c .before .before .before .before .before .before .before .before .before .before .args .outputs .now) (c .before .before .before .before .before .before .before .before .before .before .args .firsts .now))) (source (c .before .before .before .before .before .before .before .x6 .given .0 .0 .source)) (sym (c .before .before .argument-refusal .ensures) ∙ c .before .if6 .left)
 
--- src/lib.rt:481:28
-add-t75 : tie.Need-add-t75
-add-t75 c = search needs
+add-t76 : tie.Need-add-t76
+add-t76 c = search needs
 
--- src/lib.rt:474:13
 answered-requires-12 : tie.Need-answered-requires-12
 answered-requires-12 c κs = search needs
 
--- src/lib.rt:486:28
 enum-known-x-7 : tie.Need-enum-known-x-7
 enum-known-x-7 c = search needs
 
--- src/lib.rt:487:17
 connection-refusal-requires : tie.Need-connection-refusal-requires
 connection-refusal-requires c κs = (rw (c .before .before .before .before .x7 .given .1) at (c .before .before .before .before .before .before .before .pre .0), c .before .before .before .before .before .before .before .pre .1)
 
--- src/lib.rt:489:17
 answered-requires-13 : tie.Need-answered-requires-13
 answered-requires-13 c κs = search needs
 
--- src/lib.rt:489:17
 returns-7 : tie.Need-returns-7
 returns-7 c = refused-turn _ _ _ _ _ (c .before .before .connection-refusal .result) _ (rw (c .before .before .before .before .before .before .before .x7 .given .1) (c .before .before .connection-refusal .ensures)) (c .answered13 .ensures .0) (c .before .if7 .taken)
 
--- src/lib.rt:492:34
 connection-requires : tie.Need-connection-requires
 connection-requires c κs = connection-due (look (c .before .before .before .before .before .before .before .before .before .before .args .file .now)) (viewed [] (state (c .before .before .before .before .before .before .before .before .before .before .args .r) [] [] (c .before .before .before .before .before .before .before .before .before .before .args .offsets .now) (c .before .before .before .before .before .before .before .before .before .before .args .outputs .now) (c .before .before .before .before .before .before .before .before .before .before .args .firsts .now))) (source (c .before .before .before .before .before .before .before .x7 .given .0 .0)) (sym (c .before .before .connection-refusal .ensures) ∙ c .before .if7 .left)
 
--- src/lib.rt:492:25
 moved-requires-4 : tie.Need-moved-requires-4
 moved-requires-4 c κs = search needs
 
--- src/lib.rt:492:13
 answered-requires-14 : tie.Need-answered-requires-14
 answered-requires-14 c κs = search needs
 
--- src/lib.rt:494:26
 enum-told : tie.Need-enum-told
 enum-told c = search needs
 
--- src/lib.rt:494:26
 answered-requires-15 : tie.Need-answered-requires-15
 answered-requires-15 c κs = search needs
 
--- src/lib.rt:397:1
 returns-8 : tie.Need-returns-8
 returns-8 c = rw (c .before .before .before .before .before .before .x .given .1) (went-turn _ _ _ _ _ (c .before .before .before .before .component-refusal .result) _ (c .before .before .before .before .component-refusal .ensures) (c .answered2 .ensures .0) (c .before .before .before .if1 .left) (let e = c .before .begin .ensures in let q = c .answered2 .ensures .1 in kept-begin (c .before .before .before .before .before .before .before .before .before .args .held .now) (c .before .before .before .before .before .before .before .before .before .args .instances .now) (c .before .before .before .before .before .before .before .before .before .args .offsets .now) (c .before .before .before .before .before .before .before .before .before .args .outputs .now) (c .before .before .before .before .before .before .before .before .before .args .firsts .now) (c .before .before .before .before .before .before .before .before .before .args .r) _ _ _ _ _ (ap (λ (z : Reader). seen (z .place)) q ∙ e .0) (ap (λ (z : Reader). z .delay) q ∙ e .1) (ap (λ (z : Reader). z .first) q ∙ e .2) (ap (λ (z : Reader). z .number) q ∙ e .3) (ap (λ (z : Reader). z .input) q ∙ e .4) (ap (λ (z : Reader). z .offset) q ∙ e .5)) (omega arith))
 
--- src/lib.rt:397:1
 returns-9 : tie.Need-returns-9
 returns-9 c = rw (c .before .before .before .before .before .before .before .x2 .given .1) (went-turn _ _ _ _ _ (c .before .before .before .before .before .input-refusal .result) _ (c .before .before .before .before .before .input-refusal .ensures) (c .answered4 .ensures .0) (c .before .before .before .before .if2 .left) (kept-place (c .before .before .before .before .before .before .before .before .before .before .args .held .now) (c .before .before .before .before .before .before .before .before .before .before .args .instances .now) (c .before .before .before .before .before .before .before .before .before .before .args .offsets .now) (c .before .before .before .before .before .before .before .before .before .before .args .outputs .now) (c .before .before .before .before .before .before .before .before .before .before .args .firsts .now) (c .before .before .before .before .before .before .before .before .before .before .args .r) _ _ _ (c .answered4 .ensures .1 ∙ c .before .moved .ensures) (c .before .before .input .ensures)) (omega (arith, c .before .before .before .before .before .before .before .before .before .before .pre .2)))
 
--- src/lib.rt:397:1
 returns-10 : tie.Need-returns-10
 returns-10 c = rw (c .before .before .before .before .before .before .before .x3 .given .1) (went-turn _ _ _ _ _ (c .before .before .before .before .before .output-refusal .result) _ (c .before .before .before .before .before .output-refusal .ensures) (c .answered6 .ensures .0) (c .before .before .before .before .if3 .left) (kept-place (c .before .before .before .before .before .before .before .before .before .before .args .held .now) (c .before .before .before .before .before .before .before .before .before .before .args .instances .now) (c .before .before .before .before .before .before .before .before .before .before .args .offsets .now) (c .before .before .before .before .before .before .before .before .before .before .args .outputs .now) (c .before .before .before .before .before .before .before .before .before .before .args .firsts .now) (c .before .before .before .before .before .before .before .before .before .before .args .r) _ _ _ (c .answered6 .ensures .1 ∙ c .before .moved2 .ensures) (c .before .before .output .ensures)) (omega (arith, c .before .before .before .before .before .before .before .before .before .before .pre .2)))
 
--- src/lib.rt:397:1
 returns-11 : tie.Need-returns-11
 returns-11 c = rw (c .before .before .before .before .before .before .before .x4 .given .1) (went-turn _ _ _ _ _ (c .before .before .before .before .before .instance-refusal .result) _ (c .before .before .before .before .before .instance-refusal .ensures) (c .answered8 .ensures .0) (c .before .before .before .before .if4 .left) (kept-place (c .before .before .before .before .before .before .before .before .before .before .args .held .now) (c .before .before .before .before .before .before .before .before .before .before .args .instances .now) (c .before .before .before .before .before .before .before .before .before .before .args .offsets .now) (c .before .before .before .before .before .before .before .before .before .before .args .outputs .now) (c .before .before .before .before .before .before .before .before .before .before .args .firsts .now) (c .before .before .before .before .before .before .before .before .before .before .args .r) _ _ _ (c .answered8 .ensures .1 ∙ c .before .moved3 .ensures) (c .before .before .instance .ensures)) (omega (arith, c .before .before .before .before .before .before .before .before .before .before .pre .2)))
 
--- src/lib.rt:397:1
 returns-12 : tie.Need-returns-12
-returns-12 c = let f : (c .before .before .before .before .before .before .row-of .result) .first ≡ (row-in (c .before .before .before .before .before .before .before .before .before .before .before .before .before .before .before .before .before .before .args .held .now) (c .before .before .before .before .before .before .before .before .before .before .before .before .before .before .before .x5 .given .0 .0)) .first = ap (λ (w : Row). w .first) (c .before .before .before .before .before .before .row-of .ensures ∙ ap (λ (z : ℕ). row-in (c .before .before .before .before .before .before .before .before .before .before .before .before .before .before .before .before .before .before .args .held .now) z) (c .before .before .before .before .before .before .before .size .ensures .0)) in
-    rw (c .before .before .before .before .before .before .before .before .before .before .before .before .before .before .before .x5 .given .1) (went-turn _ _ _ _ _ (c .before .before .before .before .before .before .before .before .before .before .before .invocation-refusal .result) _ (c .before .before .before .before .before .before .before .before .before .before .before .invocation-refusal .ensures) (c .answered10 .ensures .0) (c .before .before .before .before .before .before .before .before .before .before .if5 .left) (kept-invocation (c .before .before .before .before .before .before .before .before .before .before .before .before .before .before .before .before .before .before .args .held .now) (c .before .before .before .before .before .before .before .before .before .before .before .before .before .before .before .before .before .before .args .instances .now) (c .before .before .before .before .before .before .before .before .before .before .before .before .before .before .before .before .before .before .args .offsets .now) (c .before .before .before .before .before .before .before .before .before .before .before .before .before .before .before .before .before .before .args .outputs .now) (c .before .before .before .before .before .before .before .before .before .before .before .before .before .before .before .before .before .before .args .firsts .now) (c .before .before .before .before .before .before .before .before .before .before .before .before .before .before .before .before .before .before .args .r) (c .answered10 .result .reader) _ (c .before .before .before .before .before .before .row-of .result) _ _ _ _ _ _ _ _ (c .before .before .before .before .before .before .row-of .ensures) (c .before .before .before .before .before .before .before .size .ensures .0) refl (c .before .before .before .before .before .wide .ensures .0) (c .before .before .before .before .wide2 .ensures .0) (c .before .size3 .ensures .0) (c .before .before .before .size2 .ensures .0) (c .before .before .invocation .ensures) (c .answered10 .ensures .1)) (omega (arith, f, c .before .size3 .ensures .0, c .before .size3 .ensures .1)))
+returns-12 c = let f : (c .before .before .before .before .before .before .before .row-of .result) .first ≡ (row-in (c .before .before .before .before .before .before .before .before .before .before .before .before .before .before .before .before .before .before .before .args .held .now) (c .before .before .before .before .before .before .before .before .before .before .before .before .before .before .before .before .x5 .given .0 .0)) .first = ap (λ (w : Row). w .first) (c .before .before .before .before .before .before .before .row-of .ensures ∙ ap (λ (z : ℕ). row-in (c .before .before .before .before .before .before .before .before .before .before .before .before .before .before .before .before .before .before .before .args .held .now) z) (c .before .before .before .before .before .before .before .before .size .ensures .0)) in
+    rw (c .before .before .before .before .before .before .before .before .before .before .before .before .before .before .before .before .x5 .given .1) (went-turn _ _ _ _ _ (c .before .before .before .before .before .before .before .before .before .before .before .before .invocation-refusal .result) _ (c .before .before .before .before .before .before .before .before .before .before .before .before .invocation-refusal .ensures) (c .answered10 .ensures .0) (c .before .before .before .before .before .before .before .before .before .before .before .if5 .left) (kept-invocation (c .before .before .before .before .before .before .before .before .before .before .before .before .before .before .before .before .before .before .before .args .held .now) (c .before .before .before .before .before .before .before .before .before .before .before .before .before .before .before .before .before .before .before .args .instances .now) (c .before .before .before .before .before .before .before .before .before .before .before .before .before .before .before .before .before .before .before .args .offsets .now) (c .before .before .before .before .before .before .before .before .before .before .before .before .before .before .before .before .before .before .before .args .outputs .now) (c .before .before .before .before .before .before .before .before .before .before .before .before .before .before .before .before .before .before .before .args .firsts .now) (c .before .before .before .before .before .before .before .before .before .before .before .before .before .before .before .before .before .before .before .args .r) (c .answered10 .result .reader) _ (c .before .before .before .before .before .before .before .row-of .result) _ _ _ _ _ _ _ _ _ (c .before .before .before .before .before .before .before .row-of .ensures) (c .before .before .before .before .before .before .before .before .size .ensures .0) refl (c .before .before .before .before .before .before .wide .ensures .0) (c .before .before .before .before .before .wide2 .ensures .0) (c .before .before .size3 .ensures .0) (c .before .before .before .before .size2 .ensures .0) (c .before .size4 .ensures .0) (c .before .before .before .invocation .ensures) (c .answered10 .ensures .1)) (omega (arith, f, c .before .before .size3 .ensures .0, c .before .before .size3 .ensures .1)))
 
--- src/lib.rt:397:1
 returns-13 : tie.Need-returns-13
 returns-13 c = rw (c .before .before .before .before .before .before .before .before .before .before .x6 .given .1) (went-turn _ _ _ _ _ (c .before .before .before .before .before .argument-refusal .result) _ (c .before .before .before .before .before .argument-refusal .ensures) (c .answered12 .ensures .0) (c .before .before .before .before .if6 .left) (ap (λ (q : Reader). state q (c .before .before .before .before .before .before .before .before .before .before .before .before .before .args .held .now) (c .before .before .before .before .before .before .before .before .before .before .before .before .before .args .instances .now) (c .before .before .before .before .before .before .before .before .before .before .before .before .before .args .offsets .now) (c .before .before .before .before .before .before .before .before .before .before .before .before .before .args .outputs .now) (c .before .before .before .before .before .before .before .before .before .before .before .before .before .args .firsts .now)) (c .answered12 .ensures .1) ∙ kept-argument (c .before .before .before .before .before .before .before .before .before .before .before .before .before .args .held .now) (c .before .before .before .before .before .before .before .before .before .before .before .before .before .args .instances .now) (c .before .before .before .before .before .before .before .before .before .before .before .before .before .args .offsets .now) (c .before .before .before .before .before .before .before .before .before .before .before .before .before .args .outputs .now) (c .before .before .before .before .before .before .before .before .before .before .before .before .before .args .firsts .now) (c .before .before .before .before .before .before .before .before .before .before .before .before .before .args .r) _ (constant 0) (c .before .before .argument .ensures)) (omega (arith, c .before .before .before .before .before .before .before .before .before .before .before .before .before .pre .2)))
 
--- src/lib.rt:397:1
 returns-14 : tie.Need-returns-14
 returns-14 c = rw (c .before .before .before .before .before .before .before .before .before .before .x7 .given .1) (went-turn _ _ _ _ _ (c .before .before .before .before .before .connection-refusal .result) _ (c .before .before .before .before .before .connection-refusal .ensures) (c .answered14 .ensures .0) (c .before .before .before .before .if7 .left) (kept-place (c .before .before .before .before .before .before .before .before .before .before .before .before .before .args .held .now) (c .before .before .before .before .before .before .before .before .before .before .before .before .before .args .instances .now) (c .before .before .before .before .before .before .before .before .before .before .before .before .before .args .offsets .now) (c .before .before .before .before .before .before .before .before .before .before .before .before .before .args .outputs .now) (c .before .before .before .before .before .before .before .before .before .before .before .before .before .args .firsts .now) (c .before .before .before .before .before .before .before .before .before .before .before .before .before .args .r) _ _ _ (c .answered14 .ensures .1 ∙ c .before .moved4 .ensures) (c .before .before .connection .ensures)) (omega (arith, c .before .before .before .before .before .before .before .before .before .before .before .before .before .pre .2)))
 
--- src/lib.rt:397:1
 returns-15 : tie.Need-returns-15
 returns-15 c = refused-turn _ _ _ _ _ 4 _ (rw (c .before .enum-told .given .1)) (c .answered15 .ensures .0) (λ z. absurd (omega arith))
 
@@ -403,13 +300,14 @@ turn-spec =
     invocation-requires
     size-requires-3
     add-t68
+    size-requires-4
     answered-requires-10
     enum-known-x-6
     argument-refusal-requires
     answered-requires-11
     returns-6
     argument-requires
-    add-t75
+    add-t76
     answered-requires-12
     enum-known-x-7
     connection-refusal-requires

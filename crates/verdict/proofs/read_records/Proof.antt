@@ -1,13 +1,6 @@
-use Prim.Native.Nat.{ℕ, zero, suc, _+_, _-_, _*_, _/_, _%_, _≤_, _<_}
-use mathlib.Core.Path.{_≡_, refl, ap, sym, _∙_}
-use mathlib.Core.List.{List, [], _∷_}
-use mathlib.Core.Bool.{Bool, true, false, cond, not, _&&_, _||_}
+use Prim.Native.Nat.{ℕ, _-_, _<_}
+use mathlib.Core.Path.{ap, sym, _∙_}
 use native.Mathlib.Omega.{arith}
-use native.Mathlib.Numerals.{add-one}
-use lib.ListN.{length, getD, take, drop, drop-of-length-le}
-use lib.Seq.{drop-cons}
-use lib.Dec.{ltb, leb, eqb}
-use borrow.Author.Tests.{lt-ltb, le-ltb, le-leb, lt-leb, eq-eqb, ne-eqb}
 use lib.ListN.{replicate}
 use borrow.Author.Tests.{not-true, not-false}
 use borrow.Author.Needs.{needs}
@@ -22,22 +15,6 @@ use Rattle.verdict.proofs.Turns.{later-next, asked-room}
 use Rattle.verdict.proofs.Reached.{Reached, reached-first, few-of, positive, first-stops, first-range, first-more, later-stops, later-range, later-more, end-short, end-whole, end-table}
 use Rattle.verdict.proofs.read_records.Statement.{statement}
 use Rattle.verdict.proofs.read_records.Tie as tie
-use Rattle.verdict.proofs.read_records.Reads as reads
-use Rattle.verdict.proofs.read_records.Lts as lts
-use Rattle.look.proofs.record_at.Reads as record-at-reads
-use Rattle.order.proofs.Place.may_end.Reads as may-end-reads
-use Rattle.reader.proofs.asked.Reads as asked-reads
-use Rattle.reader.proofs.ended.Reads as ended-reads
-use Rattle.reader.proofs.first_refusal.Reads as first-refusal-reads
-use Rattle.reader.proofs.opened.Reads as opened-reads
-use Rattle.reader.proofs.own_row.Reads as own-row-reads
-use Rattle.reader.proofs.start.Reads as start-reads
-use Rattle.reader.proofs.turn.Reads as turn-reads
-use Rattle.verdict.proofs.fault.Reads as fault-reads
-use Rattle.verdict.proofs.half.Reads as half-reads
-use Rattle.verdict.proofs.keep.Reads as keep-reads
-use Rattle.verdict.proofs.refused.Reads as refused-reads
-use Rattle.verdict.proofs.store.Reads as store-reads
 
 abbrev Inv-loop : tie.InvT-loop
 Inv-loop file n table₀ held₀ instances₀ offsets₀ outputs₀ firsts₀ r₀ i₀ table held instances offsets outputs firsts r i =
@@ -47,27 +24,21 @@ abbrev μ-loop : tie.MeasureT-loop
 μ-loop file n table₀ held₀ instances₀ offsets₀ outputs₀ firsts₀ r₀ i₀ table held instances offsets outputs firsts r i =
     n - i
 
--- src/lib.rt:87:9
 start-requires : tie.Need-start-requires Inv-loop μ-loop
 start-requires c κs = search needs
 
--- src/lib.rt:89:5
 loop-holds : tie.Need-loop-holds Inv-loop μ-loop
 loop-holds c = reached-first (c .before .before .before .args .file .now) (c .before .before .before .args .n) (c .before .before .before .args .table .now) _ (c .start .ensures (replicate 160 0) (replicate 64 0) (replicate 64 0) (replicate 64 0) (replicate 64 0)) (c .before .before .before .pre .3)
 
--- src/lib.rt:91:13
 record-at-requires : tie.Need-record-at-requires Inv-loop μ-loop
 record-at-requires c κs = (omega (arith, c .before .before .before .before .before .pre .1), omega (arith, c .before .before .before .before .before .pre .2))
 
--- src/lib.rt:92:9
 add-i : tie.Need-add-i Inv-loop μ-loop
 add-i c = search needs
 
--- src/lib.rt:94:17
 first-refusal-requires : tie.Need-first-refusal-requires Inv-loop μ-loop
 first-refusal-requires c κs = search needs
 
--- src/lib.rt:96:32
 fault-requires : tie.Need-fault-requires Inv-loop μ-loop
 fault-requires c κs = let e = c .before .before .if1 .taken in
     let at = rw e at (c .before .before .before .before .before .loop .inv) in
@@ -75,15 +46,12 @@ fault-requires c κs = let e = c .before .before .if1 .taken in
     let l : 0 < c .before .before .before .before .before .before .before .before .before .args .n = omega arith in
     first-range (c .before .before .before .before .before .before .before .before .before .args .file .now) (c .before .before .before .before .before .before .before .before .before .args .n) (c .before .before .before .before .before .before .before .before .before .args .table .now) (c .before .before .before .before .before .loop .table) (says (c .before .before .before .record-at .result)) (c .before .before .before .before .before .loop .r) (c .before .before .before .before .before .loop .held) (c .before .before .before .before .before .loop .instances) (c .before .before .before .before .before .loop .offsets) (c .before .before .before .before .before .loop .outputs) (c .before .before .before .before .before .loop .firsts) at l is (c .before .first-refusal .result) (c .before .first-refusal .ensures) (c .if2 .taken)
 
--- src/lib.rt:96:17
 refused-requires : tie.Need-refused-requires Inv-loop μ-loop
 refused-requires c κs = search needs
 
--- src/lib.rt:96:17
 same-length : tie.Need-same-length Inv-loop μ-loop
 same-length c = c .before .before .before .before .before .before .before .loop .inv .long
 
--- src/lib.rt:96:17
 returns : tie.Need-returns Inv-loop μ-loop
 returns c = let e = c .before .before .before .before .if1 .taken in
     let at = rw e at (c .before .before .before .before .before .before .before .loop .inv) in
@@ -91,15 +59,12 @@ returns c = let e = c .before .before .before .before .if1 .taken in
     let l : 0 < c .before .before .before .before .before .before .before .before .before .before .before .args .n = omega arith in
     rw (c .refused .ensures, c .before .fault .ensures) (ap counts (first-stops (c .before .before .before .before .before .before .before .before .before .before .before .args .file .now) (c .before .before .before .before .before .before .before .before .before .before .before .args .n) (c .before .before .before .before .before .before .before .before .before .before .before .args .table .now) (c .before .before .before .before .before .before .before .loop .table) (says (c .before .before .before .before .before .record-at .result)) (c .before .before .before .before .before .before .before .loop .r) (c .before .before .before .before .before .before .before .loop .held) (c .before .before .before .before .before .before .before .loop .instances) (c .before .before .before .before .before .before .before .loop .offsets) (c .before .before .before .before .before .before .before .loop .outputs) (c .before .before .before .before .before .before .before .loop .firsts) at l is (c .before .before .before .first-refusal .result) (c .before .before .before .first-refusal .ensures) (c .before .before .if2 .taken)), tt)
 
--- src/lib.rt:98:13
 opened-requires : tie.Need-opened-requires Inv-loop μ-loop
 opened-requires c κs = search needs
 
--- src/lib.rt:89:5
 loop-less : tie.Need-loop-less Inv-loop μ-loop
 loop-less c = search needs
 
--- src/lib.rt:89:5
 loop-again : tie.Need-loop-again Inv-loop μ-loop
 loop-again c = let e = c .before .before .before .if1 .taken in
     let at = rw e at (c .before .before .before .before .before .before .loop .inv) in
@@ -107,99 +72,77 @@ loop-again c = let e = c .before .before .before .if1 .taken in
     let l : 0 < c .before .before .before .before .before .before .before .before .before .before .args .n = omega arith in
     rw e (first-more (c .before .before .before .before .before .before .before .before .before .before .args .file .now) (c .before .before .before .before .before .before .before .before .before .before .args .n) (c .before .before .before .before .before .before .before .before .before .before .args .table .now) (c .before .before .before .before .before .before .loop .table) (says (c .before .before .before .before .record-at .result)) (c .before .before .before .before .before .before .loop .r) (c .before .before .before .before .before .before .loop .held) (c .before .before .before .before .before .before .loop .instances) (c .before .before .before .before .before .before .loop .offsets) (c .before .before .before .before .before .before .loop .outputs) (c .before .before .before .before .before .before .loop .firsts) at l is (c .before .before .first-refusal .result) (c .before .before .first-refusal .ensures) (c .before .if2 .left) (c .before .before .before .before .record-at .ensures .1) (c .opened .result) (c .opened .ensures .0 (c .before .before .before .before .before .before .loop .held) (c .before .before .before .before .before .before .loop .instances) (c .before .before .before .before .before .before .loop .offsets) (c .before .before .before .before .before .before .loop .outputs) (c .before .before .before .before .before .before .loop .firsts)) (c .opened .ensures .1))
 
--- src/lib.rt:104:17
 half-requires : tie.Need-half-requires Inv-loop μ-loop
 half-requires c κs = omega (arith, c .before .before .before .before .before .before .before .pre .1)
 
--- src/lib.rt:100:17
 turn-requires : tie.Need-turn-requires Inv-loop μ-loop
 turn-requires c κs = (c .before .before .before .before .before .before .before .record-at .ensures .1, few-of (c .before .before .before .before .before .before .before .before .before .loop .table) (c .before .before .before .before .before .before .before .before .before .loop .r) (c .before .before .before .before .before .before .before .before .before .loop .held) (c .before .before .before .before .before .before .before .before .before .loop .instances) (c .before .before .before .before .before .before .before .before .before .loop .offsets) (c .before .before .before .before .before .before .before .before .before .loop .outputs) (c .before .before .before .before .before .before .before .before .before .loop .firsts) (c .before .before .before .before .before .before .before .before .before .loop .inv .fit), omega (arith, c .before .before .before .before .before .half .ensures, c .before .before .before .before .before .before .before .before .before .loop .inv .input))
 
--- src/lib.rt:113:32
 fault-requires-2 : tie.Need-fault-requires-2 Inv-loop μ-loop
 fault-requires-2 c κs = later-range (c .before .before .before .before .before .before .before .before .before .before .before .before .before .before .before .args .file .now) (c .before .before .before .before .before .before .before .before .before .before .before .before .before .before .before .args .n) (c .before .before .before .before .before .before .before .before .before .before .before .before .before .before .before .args .table .now) (c .before .before .before .before .before .before .before .before .before .before .before .loop .table) (says (c .before .before .before .before .before .before .before .before .before .record-at .result)) (state (c .before .before .before .before .before .before .before .before .before .before .before .loop .r) (c .before .before .before .before .before .before .before .before .before .before .before .loop .held) (c .before .before .before .before .before .before .before .before .before .before .before .loop .instances) (c .before .before .before .before .before .before .before .before .before .before .before .loop .offsets) (c .before .before .before .before .before .before .before .before .before .before .before .loop .outputs) (c .before .before .before .before .before .before .before .before .before .before .before .loop .firsts)) (c .before .before .before .before .before .before .before .before .before .before .before .loop .i) (c .before .before .before .before .before .before .before .before .before .before .before .loop .inv) (positive (c .before .before .before .before .before .before .before .before .before .before .before .loop .i) (c .before .before .before .before .before .before .before .before .if1 .left)) (c .before .before .before .before .before .before .before .before .before .before .loop-test .taken) (sym (c .before .before .before .before .before .before .before .before .before .record-at .ensures .0)) (c .before .turn .result .refusal) (c .before .turn .ensures .lowest-is) (c .if3 .taken)
 
--- src/lib.rt:113:17
 refused-requires-2 : tie.Need-refused-requires-2 Inv-loop μ-loop
 refused-requires-2 c κs = search needs
 
--- src/lib.rt:113:17
 same-length-2 : tie.Need-same-length-2 Inv-loop μ-loop
 same-length-2 c = c .before .before .before .before .before .before .before .before .before .before .before .before .before .loop .inv .long
 
--- src/lib.rt:113:17
 returns-2 : tie.Need-returns-2 Inv-loop μ-loop
 returns-2 c = rw (c .refused2 .ensures, c .before .fault2 .ensures) (ap counts (later-stops (c .before .before .before .before .before .before .before .before .before .before .before .before .before .before .before .before .before .args .file .now) (c .before .before .before .before .before .before .before .before .before .before .before .before .before .before .before .before .before .args .n) (c .before .before .before .before .before .before .before .before .before .before .before .before .before .before .before .before .before .args .table .now) (c .before .before .before .before .before .before .before .before .before .before .before .before .before .loop .table) (says (c .before .before .before .before .before .before .before .before .before .before .before .record-at .result)) (state (c .before .before .before .before .before .before .before .before .before .before .before .before .before .loop .r) (c .before .before .before .before .before .before .before .before .before .before .before .before .before .loop .held) (c .before .before .before .before .before .before .before .before .before .before .before .before .before .loop .instances) (c .before .before .before .before .before .before .before .before .before .before .before .before .before .loop .offsets) (c .before .before .before .before .before .before .before .before .before .before .before .before .before .loop .outputs) (c .before .before .before .before .before .before .before .before .before .before .before .before .before .loop .firsts)) (c .before .before .before .before .before .before .before .before .before .before .before .before .before .loop .i) (c .before .before .before .before .before .before .before .before .before .before .before .before .before .loop .inv) (positive (c .before .before .before .before .before .before .before .before .before .before .before .before .before .loop .i) (c .before .before .before .before .before .before .before .before .before .before .if1 .left)) (c .before .before .before .before .before .before .before .before .before .before .before .before .loop-test .taken) (sym (c .before .before .before .before .before .before .before .before .before .before .before .record-at .ensures .0)) (c .before .before .before .turn .result .refusal) (c .before .before .before .turn .ensures .lowest-is) (c .before .before .if3 .taken)), tt)
 
--- src/lib.rt:116:25
 asked-requires : tie.Need-asked-requires Inv-loop μ-loop
 asked-requires c κs = search needs
 
--- src/lib.rt:116:13
 keep-requires : tie.Need-keep-requires Inv-loop μ-loop
 keep-requires c κs = (c .before .before .before .before .before .before .before .before .before .before .before .before .before .before .before .loop .inv .fit .table, λ l. asked-room (look (c .before .before .before .before .before .before .before .before .before .before .before .before .before .before .before .before .before .before .before .args .file .now)) (state (c .before .before .before .before .before .before .before .before .before .before .before .before .before .before .before .loop .r) (c .before .before .before .before .before .before .before .before .before .before .before .before .before .before .before .loop .held) (c .before .before .before .before .before .before .before .before .before .before .before .before .before .before .before .loop .instances) (c .before .before .before .before .before .before .before .before .before .before .before .before .before .before .before .loop .offsets) (c .before .before .before .before .before .before .before .before .before .before .before .before .before .before .before .loop .outputs) (c .before .before .before .before .before .before .before .before .before .before .before .before .before .before .before .loop .firsts)) (says (c .before .before .before .before .before .before .before .before .before .before .before .before .before .record-at .result)) (c .before .before .before .before .before .turn .result .refusal) (c .before .before .before .before .before .turn .ensures .lowest-is) (c .before .before .before .before .if3 .left) (rw (c .before .asked .ensures) at l))
 
--- src/lib.rt:117:26
 ended-requires : tie.Need-ended-requires Inv-loop μ-loop
 ended-requires c κs = search needs
 
--- src/lib.rt:117:47
 own-row-requires : tie.Need-own-row-requires Inv-loop μ-loop
 own-row-requires c κs = few-of (c .before .before .before .before .before .before .before .before .before .before .before .before .before .before .before .before .before .before .loop .table) (c .before .before .before .before .before .before .before .before .before .before .before .before .before .before .before .before .before .before .loop .r) (c .before .before .before .before .before .before .before .before .before .before .before .before .before .before .before .before .before .before .loop .held) (c .before .before .before .before .before .before .before .before .before .before .before .before .before .before .before .before .before .before .loop .instances) (c .before .before .before .before .before .before .before .before .before .before .before .before .before .before .before .before .before .before .loop .offsets) (c .before .before .before .before .before .before .before .before .before .before .before .before .before .before .before .before .before .before .loop .outputs) (c .before .before .before .before .before .before .before .before .before .before .before .before .before .before .before .before .before .before .loop .firsts) (c .before .before .before .before .before .before .before .before .before .before .before .before .before .before .before .before .before .before .loop .inv .fit)
 
--- src/lib.rt:117:13
 store-requires : tie.Need-store-requires Inv-loop μ-loop
 store-requires c κs = c .before .before .before .before .before .before .before .before .before .before .before .before .before .before .before .before .before .before .before .loop .inv .fit .table
 
--- src/lib.rt:89:5
 loop-less-2 : tie.Need-loop-less-2 Inv-loop μ-loop
 loop-less-2 c = omega (arith, c .before .before .before .before .before .before .before .before .before .before .before .before .before .before .before .before .before .before .before .before .before .before .loop-test .taken)
 
--- src/lib.rt:89:5
 loop-again-2 : tie.Need-loop-again-2 Inv-loop μ-loop
 loop-again-2 c = let x = says (c .before .before .before .before .before .before .before .before .before .before .before .before .before .before .before .before .before .before .before .before .before .record-at .result) in
     let t = rw (c .before .before .before .before .before .before .before .before .before .before .before .before .before .before .before .before .before .before .before .half .ensures) at (c .before .before .before .before .before .before .before .before .before .before .before .before .before .turn .ensures) in
-    later-more (c .before .before .before .before .before .before .before .before .before .before .before .before .before .before .before .before .before .before .before .before .before .before .before .before .before .before .before .args .file .now) (c .before .before .before .before .before .before .before .before .before .before .before .before .before .before .before .before .before .before .before .before .before .before .before .before .before .before .before .args .n) (c .before .before .before .before .before .before .before .before .before .before .before .before .before .before .before .before .before .before .before .before .before .before .before .before .before .before .before .args .table .now) (c .before .before .before .before .before .before .before .before .before .before .before .before .before .before .before .before .before .before .before .before .before .before .before .loop .table) (says (c .before .before .before .before .before .before .before .before .before .before .before .before .before .before .before .before .before .before .before .before .before .record-at .result)) (state (c .before .before .before .before .before .before .before .before .before .before .before .before .before .before .before .before .before .before .before .before .before .before .before .loop .r) (c .before .before .before .before .before .before .before .before .before .before .before .before .before .before .before .before .before .before .before .before .before .before .before .loop .held) (c .before .before .before .before .before .before .before .before .before .before .before .before .before .before .before .before .before .before .before .before .before .before .before .loop .instances) (c .before .before .before .before .before .before .before .before .before .before .before .before .before .before .before .before .before .before .before .before .before .before .before .loop .offsets) (c .before .before .before .before .before .before .before .before .before .before .before .before .before .before .before .before .before .before .before .before .before .before .before .loop .outputs) (c .before .before .before .before .before .before .before .before .before .before .before .before .before .before .before .before .before .before .before .before .before .before .before .loop .firsts)) (c .before .before .before .before .before .before .before .before .before .before .before .before .before .before .before .before .before .before .before .before .before .before .before .loop .i) (c .before .before .before .before .before .before .before .before .before .before .before .before .before .before .before .before .before .before .before .before .before .before .before .loop .inv) (positive (c .before .before .before .before .before .before .before .before .before .before .before .before .before .before .before .before .before .before .before .before .before .before .before .loop .i) (c .before .before .before .before .before .before .before .before .before .before .before .before .before .before .before .before .before .before .before .before .if1 .left)) (c .before .before .before .before .before .before .before .before .before .before .before .before .before .before .before .before .before .before .before .before .before .before .loop-test .taken) (sym (c .before .before .before .before .before .before .before .before .before .before .before .before .before .before .before .before .before .before .before .before .before .record-at .ensures .0)) (c .before .before .before .before .before .before .before .before .before .before .before .before .before .turn .result .refusal) (c .before .before .before .before .before .before .before .before .before .before .before .before .before .turn .ensures .lowest-is) (c .before .before .before .before .before .before .before .before .before .before .before .before .if3 .left) (c .before .before .before .before .before .before .before .before .before .before .before .before .before .before .before .before .before .before .before .before .before .record-at .ensures .1) _ _
+    later-more (c .before .before .before .before .before .before .before .before .before .before .before .before .before .before .before .before .before .before .before .before .before .before .before .before .before .before .before .args .file .now) (c .before .before .before .before .before .before .before .before .before .before .before .before .before .before .before .before .before .before .before .before .before .before .before .before .before .before .before .args .n) (c .before .before .before .before .before .before .before .before .before .before .before .before .before .before .before .before .before .before .before .before .before .before .before .before .before .before .before .args .table .now) (c .before .before .before .before .before .before .before .before .before .before .before .before .before .before .before .before .before .before .before .before .before .before .before .loop .table) (says (c .before .before .before .before .before .before .before .before .before .before .before .before .before .before .before .before .before .before .before .before .before .record-at .result)) (state (c .before .before .before .before .before .before .before .before .before .before .before .before .before .before .before .before .before .before .before .before .before .before .before .loop .r) (c .before .before .before .before .before .before .before .before .before .before .before .before .before .before .before .before .before .before .before .before .before .before .before .loop .held) (c .before .before .before .before .before .before .before .before .before .before .before .before .before .before .before .before .before .before .before .before .before .before .before .loop .instances) (c .before .before .before .before .before .before .before .before .before .before .before .before .before .before .before .before .before .before .before .before .before .before .before .loop .offsets) (c .before .before .before .before .before .before .before .before .before .before .before .before .before .before .before .before .before .before .before .before .before .before .before .loop .outputs) (c .before .before .before .before .before .before .before .before .before .before .before .before .before .before .before .before .before .before .before .before .before .before .before .loop .firsts)) (c .before .before .before .before .before .before .before .before .before .before .before .before .before .before .before .before .before .before .before .before .before .before .before .loop .i) (c .before .before .before .before .before .before .before .before .before .before .before .before .before .before .before .before .before .before .before .before .before .before .before .loop .inv) (positive (c .before .before .before .before .before .before .before .before .before .before .before .before .before .before .before .before .before .before .before .before .before .before .before .loop .i) (c .before .before .before .before .before .before .before .before .before .before .before .before .before .before .before .before .before .before .before .before .if1 .left)) (c .before .before .before .before .before .before .before .before .before .before .before .before .before .before .before .before .before .before .before .before .before .before .loop-test .taken) (sym (c .before .before .before .before .before .before .before .before .before .before .before .before .before .before .before .before .before .before .before .before .before .record-at .ensures .0)) (c .before .before .before .before .before .before .before .before .before .before .before .before .before .turn .result .refusal) (c .before .before .before .before .before .before .before .before .before .before .before .before .before .turn .ensures .lowest-is) (c .before .before .before .before .before .before .before .before .before .before .before .before .if3 .left) (omega (arith, c .before .before .before .before .before .before .before .before .before .before .before .before .before .before .before .before .before .before .before .before .before .before .before .before .before .before .before .pre .1, c .before .before .before .before .before .before .before .before .before .before .before .before .before .before .before .before .before .before .before .before .before .before .loop-test .taken)) (c .before .before .before .before .before .before .before .before .before .before .before .before .before .before .before .before .before .before .before .before .before .record-at .ensures .1) _ _
     (later-next (c .before .before .before .before .before .before .before .before .before .before .before .before .before .before .before .before .before .before .before .before .before .before .before .loop .table) (state (c .before .before .before .before .before .before .before .before .before .before .before .before .before .before .before .before .before .before .before .before .before .before .before .loop .r) (c .before .before .before .before .before .before .before .before .before .before .before .before .before .before .before .before .before .before .before .before .before .before .before .loop .held) (c .before .before .before .before .before .before .before .before .before .before .before .before .before .before .before .before .before .before .before .before .before .before .before .loop .instances) (c .before .before .before .before .before .before .before .before .before .before .before .before .before .before .before .before .before .before .before .before .before .before .before .loop .offsets) (c .before .before .before .before .before .before .before .before .before .before .before .before .before .before .before .before .before .before .before .before .before .before .before .loop .outputs) (c .before .before .before .before .before .before .before .before .before .before .before .before .before .before .before .before .before .before .before .before .before .before .before .loop .firsts)) (c .before .before .before .before .before .before .before .before .before .before .before .before .before .before .before .before .before .before .before .before .before .before .before .loop .i) x _ (c .before .before .before .before .before .before .before .before .before .before .before .before .before .before .before .before .before .before .before .before .before .before .before .loop .held) _ _ _ _ _ _ (t .goes-on (c .before .before .before .before .before .before .before .before .before .before .before .before .if3 .left)) (c .before .before .before .before .before .before .before .keep .ensures ∙ ap (λ (k : ℕ). kept (c .before .before .before .before .before .before .before .before .before .before .before .before .before .before .before .before .before .before .before .before .before .before .before .loop .table) k (c .before .before .before .before .before .before .before .before .before .before .before .before .before .before .before .before .before .before .before .before .before .before .before .loop .held) (c .before .before .before .before .before .before .before .before .before .before .before .before .before .before .before .before .before .before .before .before .before .before .before .loop .r .place .instances)) (c .before .before .before .before .before .before .before .before .before .asked .ensures)) (c .before .before .before .store .ensures ∙ ap (λ (w : Row). stored (c .before .before .before .before .before .before .before .before .before .before .before .before .before .before .before .before .before .before .before .before .before .before .before .loop .table) (c .before .before .before .before .before .ended .result) w) (c .before .before .before .before .own-row .ensures) ∙ ap (λ (k : ℕ). stored (c .before .before .before .before .before .before .before .before .before .before .before .before .before .before .before .before .before .before .before .before .before .before .before .loop .table) k (own-row (state (c .before .before .before .before .before .before .before .before .before .before .before .before .before .before .before .before .before .before .before .before .before .before .before .loop .r) (c .before .before .before .before .before .before .before .before .before .before .before .before .before .before .before .before .before .before .before .before .before .before .before .loop .held) (c .before .before .before .before .before .before .before .before .before .before .before .before .before .before .before .before .before .before .before .before .before .before .before .loop .instances) (c .before .before .before .before .before .before .before .before .before .before .before .before .before .before .before .before .before .before .before .before .before .before .before .loop .offsets) (c .before .before .before .before .before .before .before .before .before .before .before .before .before .before .before .before .before .before .before .before .before .before .before .loop .outputs) (c .before .before .before .before .before .before .before .before .before .before .before .before .before .before .before .before .before .before .before .before .before .before .before .loop .firsts)))) (c .before .before .before .before .before .ended .ensures)))
     (t .input-record (c .before .before .before .before .before .before .before .before .before .before .before .before .if3 .left))
     (c .before .before .before .store .kept .0)
 
--- src/lib.rt:122:9
 may-end-requires : tie.Need-may-end-requires Inv-loop μ-loop
 may-end-requires c κs = search needs
 
--- src/lib.rt:123:9
 refused-requires-3 : tie.Need-refused-requires-3 Inv-loop μ-loop
 refused-requires-3 c κs = search needs
 
--- src/lib.rt:123:9
 same-length-3 : tie.Need-same-length-3 Inv-loop μ-loop
 same-length-3 c = c .before .before .before .before .before .loop .inv .long
 
--- src/lib.rt:123:9
 returns-3 : tie.Need-returns-3 Inv-loop μ-loop
 returns-3 c = rw (c .refused3 .ensures) (ap counts (end-short (c .before .before .before .before .before .before .before .before .before .args .file .now) (c .before .before .before .before .before .before .before .before .before .args .n) (c .before .before .before .before .before .before .before .before .before .args .table .now) (c .before .before .before .before .before .loop .table) (state (c .before .before .before .before .before .loop .r) (c .before .before .before .before .before .loop .held) (c .before .before .before .before .before .loop .instances) (c .before .before .before .before .before .loop .offsets) (c .before .before .before .before .before .loop .outputs) (c .before .before .before .before .before .loop .firsts)) (c .before .before .before .before .before .loop .i) (c .before .before .before .before .before .loop .inv) (c .before .before .before .before .loop-test .left) (c .before .before .before .before .before .before .before .before .before .pre .0) (sym (c .before .before .may-end .ensures) ∙ not-true _ (c .before .if4 .taken))), tt)
 
--- src/lib.rt:126:26
 own-row-requires-2 : tie.Need-own-row-requires-2 Inv-loop μ-loop
 own-row-requires-2 c κs = few-of (c .before .before .before .before .before .loop .table) (c .before .before .before .before .before .loop .r) (c .before .before .before .before .before .loop .held) (c .before .before .before .before .before .loop .instances) (c .before .before .before .before .before .loop .offsets) (c .before .before .before .before .before .loop .outputs) (c .before .before .before .before .before .loop .firsts) (c .before .before .before .before .before .loop .inv .fit)
 
--- src/lib.rt:126:5
 store-requires-2 : tie.Need-store-requires-2 Inv-loop μ-loop
 store-requires-2 c κs = c .before .before .before .before .before .before .loop .inv .fit .table
 
--- src/lib.rt:128:21
 add-t45 : tie.Need-add-t45 Inv-loop μ-loop
 add-t45 c = omega (arith, c .before .before .before .before .before .before .before .before .before .loop .inv .fit .number)
 
--- src/lib.rt:78:1
 same-length-4 : tie.Need-same-length-4 Inv-loop μ-loop
 same-length-4 c = c .before .before .store2 .kept .0 ∙ c .before .before .before .before .before .before .before .before .before .loop .inv .long
 
--- src/lib.rt:78:1
 returns-4 : tie.Need-returns-4 Inv-loop μ-loop
 returns-4 c = let e = end-whole (c .before .before .before .before .before .before .before .before .before .before .before .before .before .args .file .now) (c .before .before .before .before .before .before .before .before .before .before .before .before .before .args .n) (c .before .before .before .before .before .before .before .before .before .before .before .before .before .args .table .now) (c .before .before .before .before .before .before .before .before .before .loop .table) (state (c .before .before .before .before .before .before .before .before .before .loop .r) (c .before .before .before .before .before .before .before .before .before .loop .held) (c .before .before .before .before .before .before .before .before .before .loop .instances) (c .before .before .before .before .before .before .before .before .before .loop .offsets) (c .before .before .before .before .before .before .before .before .before .loop .outputs) (c .before .before .before .before .before .before .before .before .before .loop .firsts)) (c .before .before .before .before .before .before .before .before .before .loop .i) (c .before .before .before .before .before .before .before .before .before .loop .inv) (c .before .before .before .before .before .before .before .before .loop-test .left) (c .before .before .before .before .before .before .before .before .before .before .before .before .before .pre .0) (sym (c .before .before .before .before .before .before .may-end .ensures) ∙ not-false _ (c .before .before .before .before .before .if4 .left)) in
-    let h : Holds (c .before .before .before .before .before .before .before .before .before .before .before .before .before .args .file .now) (c .before .before .before .before .before .before .before .before .before .before .before .before .before .args .n) = record { within = c .before .before .before .before .before .before .before .before .before .before .before .before .before .pre .2; small = λ j l. omega (arith, c .before .before .before .before .before .before .before .before .before .before .before .before .shared-slice-known .given j) } in
+    let h : Holds (c .before .before .before .before .before .before .before .before .before .before .before .before .before .args .file .now) (c .before .before .before .before .before .before .before .before .before .before .before .before .before .args .n) = record { few = c .before .before .before .before .before .before .before .before .before .before .before .before .before .pre .1; within = c .before .before .before .before .before .before .before .before .before .before .before .before .before .pre .2; small = λ j l. omega (arith, c .before .before .before .before .before .before .before .before .before .before .before .before .shared-slice-known .given j) } in
     (ap counts e, end-table (c .before .before .before .before .before .before .before .before .before .before .before .before .before .args .file .now) (c .before .before .before .before .before .before .before .before .before .before .before .before .before .args .n) (c .before .before .before .before .before .before .before .before .before .before .before .before .before .args .table .now) (c .before .before .before .before .before .before .before .before .before .loop .table) (state (c .before .before .before .before .before .before .before .before .before .loop .r) (c .before .before .before .before .before .before .before .before .before .loop .held) (c .before .before .before .before .before .before .before .before .before .loop .instances) (c .before .before .before .before .before .before .before .before .before .loop .offsets) (c .before .before .before .before .before .before .before .before .before .loop .outputs) (c .before .before .before .before .before .before .before .before .before .loop .firsts)) (c .before .before .before .before .before .before .before .before .before .loop .i) (c .before .before .before .before .before .before .before .before .before .loop .inv) (c .before .before .before .before .before .before .before .before .loop-test .left) (c .before .before .before .before .before .before .before .before .before .before .before .before .before .pre .0) (rows-right (c .before .before .before .before .before .before .before .before .before .before .before .before .before .args .file .now) (c .before .before .before .before .before .before .before .before .before .before .before .before .before .args .n) h (c .before .before .before .before .before .before .before .before .before .before .before .before .before .args .table .now) (c .before .before .before .before .before .before .before .before .before .before .before .before .before .pre .3) _ _ (sym e)) _ (c .before .before .store2 .ensures ∙ ap (λ (w : Row). stored (c .before .before .before .before .before .before .before .before .before .loop .table) (c .before .before .before .before .before .before .before .before .before .loop .r .number) w) (c .before .before .before .own-row2 .ensures)))
 
 pub read-records-spec : {M : Type 1} → statement M
