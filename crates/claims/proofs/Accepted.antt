@@ -1,0 +1,131 @@
+-- A file of bytes is accepted exactly when it is that of a lawful design.
+-- Assumes nothing.
+use Prim.Native.Nat.{ℕ, _*_, _/_, _%_, _≤_, _<_}
+use mathlib.Core.Path.{_≡_, refl, ap, sym, _∙_}
+use mathlib.Core.List.{List, [], _∷_, map}
+use mathlib.Core.Bool.{Bool, true, false, cond}
+use mathlib.Core.Logic.{_↔_}
+use native.Mathlib.Omega.{arith}
+use lib.ListN.{length, length-append, length-map}
+use lib.Dec.{ltb}
+use borrow.Author.Tests.{le-ltb, eq-eqb}
+use Rattle.answers.specs.Answer.{Answer, accepted, refused, then, Counts}
+use Rattle.numbers.specs.Numbers.{Bytes}
+use Rattle.blocks.specs.File.{sound}
+use Rattle.packing.specs.Packed.{packed, unpacked}
+use Rattle.packing.proofs.Main as Packing
+use Rattle.timeline.specs.Design.{Design}
+use Rattle.timeline.specs.Rules.{Lawful}
+use Rattle.entry.specs.Records.{Record, component, parts, records}
+use Rattle.entry.specs.Answers as Entry
+use Rattle.entry.specs.Verdict.{verdict}
+use Rattle.entry.specs.Main.{accepted-exactly}
+use Rattle.records.specs.Decoded.{decoded}
+use Rattle.records.specs.Encoded.{encoded}
+use Rattle.verdict.specs.Judgement.{sixteens, records-of, counts, judgement}
+use Rattle.claims.specs.File.{joined, list-bytes, file-of, Holds-lawful}
+use Rattle.claims.proofs.Pieces.{pieces, joined-all, length-joined, pieces-joined, sixteens-are}
+use Rattle.claims.proofs.Coded.{All-in-range, accepted-in-range, decode-encoded, sixteens-encoded, joined-small, encode-decoded, length-pieces}
+
+-- What acceptance has passed: the table's length, the blocks, the records.
+pub record Passed (file : List ℕ) (c r : ℕ) : Type 0 where
+  pub count : ℕ
+  pub blocks : sound file ≡ accepted count
+  pub rules : verdict (records-of file count) ≡ Entry.accepted c r
+
+counted : (a : Entry.Answer) (c r : ℕ) → counts a ≡ accepted (record { components = c; records = r }) → a ≡ Entry.accepted c r
+counted (Entry.accepted d s) c r e =
+    let k : _≡_ {A = Counts} (record { components = d; records = s }) (record { components = c; records = r }) = cc in
+    ap (λ (x : Counts). Entry.accepted (x .components) (x .records)) k
+counted (Entry.refused n p) c r e = absurd (let z : _≡_ {A = ℕ} 0 1 = cc in omega arith)
+
+pub passed : (file : List ℕ) (numbers c r : ℕ) → judgement file numbers ≡ accepted (record { components = c; records = r }) → Passed file c r
+unfolding judgement
+passed file numbers c r e = go (ltb numbers 320) (sound file) refl e
+  where
+    go : (t : Bool) (a : Answer ℕ) → sound file ≡ a
+        → _≡_ {A = Answer Counts} (cond t (refused 13 0) (then a (λ (n : ℕ). counts (verdict (records-of file n))))) (accepted (record { components = c; records = r })) → Passed file c r
+    go true a q e = absurd (let z : _≡_ {A = ℕ} 0 1 = cc in omega arith)
+    go false (accepted n) q e = record { count = n; blocks = q; rules = counted (verdict (records-of file n)) c r e }
+    go false (refused n p) q e = absurd (let z : _≡_ {A = ℕ} 0 1 = cc in omega arith)
+
+module _ (file : List ℕ) (small : Bytes file) (c r : ℕ) (p : Passed file c r) where
+  abbrev holds : Packing.File file
+  holds = record { count = p .count; passes = p .blocks; small = small }
+
+  -- Its records, encoded again, are its list, and packed again the file.
+  list-again : joined (map encoded (records-of file (p .count))) ≡ unpacked file
+  list-again =
+      let u = Packing.list-of file holds in
+      let s : sixteens file 0 (p .count) ≡ pieces (unpacked file) 0 (p .count) = sixteens-are file holds in
+      let v : verdict (map decoded (pieces (unpacked file) 0 (p .count))) ≡ Entry.accepted c r = rw s at (p .rules) in
+      let a = accepted-in-range (map decoded (pieces (unpacked file) 0 (p .count))) c r v in
+      rw s (ap joined (encode-decoded (unpacked file) (u .small) 0 (p .count) a) ∙ joined-all (unpacked file) (p .count) (Packing.count-is file holds))
+
+  pub file-again : packed (joined (map encoded (records-of file (p .count)))) ≡ file
+  file-again = ap packed list-again ∙ Packing.back-and-there file holds
+
+  length-sixteens : length (sixteens file 0 (p .count)) ≡ p .count
+  length-sixteens = rw (sixteens-are file holds) (length-pieces (unpacked file) 0 (p .count))
+
+  to-design : Holds-lawful file c r
+  to-design =
+      let (D, lawful, e, g, h) = (accepted-exactly (records-of file (p .count)) c r) .0 (p .rules) in
+      let k : r ≡ p .count = sym h ∙ length-map (sixteens file 0 (p .count)) decoded ∙ length-sixteens in
+      let m = Packing.count-is file holds in
+      let q = (Packing.list-of file holds) .allowed .most in
+      record {
+        design = D;
+        lawful = lawful;
+        is = ap (λ (rs : List Record). packed (joined (map encoded rs))) e ∙ file-again;
+        components = g;
+        count = ap length e ∙ h;
+        few = omega arith;
+      }
+
+some-record : (D : Design) → 0 < length D → 1 ≤ length (records D)
+unfolding records
+some-record [] l = absurd (omega arith)
+some-record (C ∷ D) l = omega (arith, length-append (component (C .class) (C .delay) ∷ parts C) (records D))
+
+-- The file of a lawful design.
+module _ (D : Design) (lawful : Lawful D) (few : length (records D) ≤ 3968) where
+  in-order : verdict (records D) ≡ Entry.accepted (length D) (length (records D))
+  in-order = (accepted-exactly (records D) (length D) (length (records D))) .1 (D, lawful, refl, refl, refl)
+
+  ranges : All-in-range (records D)
+  ranges = accepted-in-range (records D) (length D) (length (records D)) in-order
+
+  long : length (list-bytes D) ≡ 16 * length (records D)
+  long = length-joined (map encoded (records D)) (sixteens-encoded (records D) ranges) ∙ ap (λ (n : ℕ). 16 * n) (length-map (records D) encoded)
+
+  listed : Packing.Records (list-bytes D)
+  listed =
+      let e = long in
+      let s = some-record D (lawful .some) in
+      record {
+        allowed = record { least = omega arith; most = omega arith; also = eq-eqb (length (list-bytes D) % 16) 0 (omega arith) };
+        small = joined-small (records D) ranges;
+      }
+
+  held : sound (file-of D) ≡ accepted (length (records D))
+  held = let e = long in let n : length (list-bytes D) / 16 ≡ length (records D) = omega arith in rw n at (Packing.packed-passes (list-bytes D) listed)
+
+  said : records-of (file-of D) (length (records D)) ≡ records D
+  said =
+      let f : Packing.File (file-of D) = record { count = length (records D); passes = held; small = (Packing.file-of (list-bytes D) listed) .small } in
+      let u : unpacked (file-of D) ≡ list-bytes D = Packing.there-and-back (list-bytes D) listed in
+      let m : length (map encoded (records D)) ≡ length (records D) = length-map (records D) encoded in
+      let p : pieces (list-bytes D) 0 (length (records D)) ≡ map encoded (records D) = rw m at (pieces-joined (map encoded (records D)) (sixteens-encoded (records D) ranges)) in
+      ap (map decoded) (sixteens-are (file-of D) f ∙ ap (λ (l : List ℕ). pieces l 0 (length (records D))) u ∙ p) ∙ decode-encoded (records D) ranges
+
+  pub from-design : (numbers : ℕ) → 320 ≤ numbers → judgement (file-of D) numbers ≡ accepted (record { components = length D; records = length (records D) })
+  unfolding judgement
+  from-design numbers room = rw (le-ltb numbers 320 room, held, said, in-order)
+
+pub judged-exactly : (file : List ℕ) → Bytes file → (numbers : ℕ) → 320 ≤ numbers → (c r : ℕ)
+    → (judgement file numbers ≡ accepted (record { components = c; records = r })) ↔ Holds-lawful file c r
+judged-exactly file small numbers room c r = (
+  λ e. to-design file small c r (passed file numbers c r e),
+  λ h. rw (← h .is, ← h .components, ← h .count) (from-design (h .design) (h .lawful) (rw (h .count) (h .few)) numbers room),
+)

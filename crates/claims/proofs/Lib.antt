@@ -1,0 +1,5 @@
+pub mod Pieces
+pub mod Sizes
+pub mod Coded
+pub mod Accepted
+pub mod Main
