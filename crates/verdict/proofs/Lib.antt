@@ -4,3 +4,4 @@ pub mod Whole
 pub mod Turns
 pub mod Reached
 pub mod Counts
+pub mod Unpacked

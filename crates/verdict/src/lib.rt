@@ -108,9 +108,9 @@ fn read_records(file: &[u8], n: usize, table: &mut [u16]) -> Verdict
                 &mut outputs,
                 &mut firsts,
             );
-            let no = t.refusal;
-            if no != 0 {
-                return refused(fault(no), p);
+            let refusal = t.refusal;
+            if refusal != 0 {
+                return refused(fault(refusal), p);
             }
             let place = r.place;
             keep(table, reader::asked(x), &mut held, place.instances);
