@@ -34,10 +34,25 @@ says() {
     fi
 }
 
+# wrote NAME LINE: just that line on standard output
+wrote() {
+    if [ "$(cat "$room/out")" != "$2" ]; then
+        echo "command: $1: wrote '$(cat "$room/out")' and not '$2'" >&2
+        failed=1
+    fi
+}
+
 expect 0 'pack' ./dansevik pack examples/squaring.records
 same 'pack' "$room/out" examples/squaring.design
 expect 0 'unpack' ./dansevik unpack examples/squaring.design
 same 'unpack' "$room/out" examples/squaring.records
+
+expect 0 'judge' ./dansevik judge examples/squaring.design
+wrote 'judge' 'accepted 2 16'
+expect 1 'a refused design' ./dansevik judge crates/cases/data/b
+wrote 'a refused design' 'refused 11 at 12'
+expect 1 'nothing judged' ./dansevik judge
+wrote 'nothing judged' 'refused 1 at 0'
 
 expect 1 'nothing packed' ./dansevik pack
 says 'nothing packed' 'refused 1 at 0'
@@ -50,6 +65,8 @@ says 'a file with a byte more' 'refused 1 at 0'
 head -c 66048 /dev/zero >"$room/blocks"
 expect 1 'a file of 129 blocks' ./dansevik unpack "$room/blocks"
 says 'a file of 129 blocks' 'refused 1 at 0'
+expect 1 'a file of 129 blocks, judged' ./dansevik judge "$room/blocks"
+wrote 'a file of 129 blocks, judged' 'refused 1 at 0'
 { printf 'x'; tail -c +2 examples/squaring.design; } >"$room/damaged"
 expect 1 'a damaged block' ./dansevik unpack "$room/damaged"
 says 'a damaged block' 'refused 2 at 0'
