@@ -1,3 +1,5 @@
+-- `look::port_at` meets its contract. Within the file the three reads are the definition's; past its end both say nothing.
+-- Assumes nothing.
 use mathlib.Core.Path.{_≡_}
 use borrow.Author.Tests.{lt-ltb, le-ltb}
 use Rattle.look.specs.Look.{look}

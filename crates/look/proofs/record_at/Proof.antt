@@ -1,3 +1,5 @@
+-- `look::record_at` meets its contract. The part that is decoded is the record's sixteen bytes, and what decodes is in range.
+-- Assumes nothing.
 use Prim.Native.Nat.{_%_}
 use mathlib.Core.Path.{_≡_, _∙_}
 use native.Mathlib.Omega.{arith}

@@ -1,3 +1,5 @@
+-- `reader::argument_refusal` meets its contract. The place, then the source, read at the input that is due.
+-- Assumes nothing.
 use Prim.Native.Nat.{_%_}
 use mathlib.Core.Path.{_≡_, _∙_}
 use native.Mathlib.Omega.{arith}

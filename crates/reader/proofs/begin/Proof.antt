@@ -1,3 +1,5 @@
+-- `reader::begin` meets its contract. Each field is what the definition gives a component that begins.
+-- Assumes nothing.
 use mathlib.Core.Path.{refl, ap, _∙_}
 use Rattle.reading.specs.Place.{begun}
 use borrow.Author.Needs.{needs}

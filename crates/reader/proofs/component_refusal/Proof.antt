@@ -1,3 +1,5 @@
+-- `reader::component_refusal` meets its contract. The two tests are those of the theory, in its order.
+-- Assumes nothing.
 use borrow.Author.Needs.{needs}
 use Rattle.reader.proofs.component_refusal.Statement.{statement}
 use Rattle.reader.proofs.component_refusal.Tie as tie

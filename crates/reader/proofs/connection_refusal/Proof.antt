@@ -1,3 +1,5 @@
+-- `reader::connection_refusal` meets its contract. The place, then the source, read at the own output that lacks a connection.
+-- Assumes nothing.
 use mathlib.Core.Path.{_∙_}
 use borrow.Author.Needs.{needs}
 use Rattle.reader.proofs.connection_refusal.Statement.{statement}

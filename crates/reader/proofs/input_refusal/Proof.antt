@@ -1,3 +1,5 @@
+-- `reader::input_refusal` meets its contract. The three tests are those of the theory, in its order.
+-- Assumes nothing.
 use borrow.Author.Needs.{needs}
 use Rattle.reader.proofs.input_refusal.Statement.{statement}
 use Rattle.reader.proofs.input_refusal.Tie as tie

@@ -1,3 +1,5 @@
+-- `reader::instance_refusal` meets its contract. The three tests are those of the theory, in its order.
+-- Assumes nothing.
 use borrow.Author.Needs.{needs}
 use Rattle.reader.proofs.instance_refusal.Statement.{statement}
 use Rattle.reader.proofs.instance_refusal.Tie as tie

@@ -1,3 +1,5 @@
+-- `reader::invocation_refusal` meets its contract. With 64 invocations there is no room for another; below that the tests are those of the theory.
+-- Assumes nothing.
 use mathlib.Core.Path.{ap, _∙_}
 use borrow.Author.Tests.{lt-ltb, le-ltb}
 use borrow.Author.Needs.{needs}

@@ -1,3 +1,5 @@
+-- `reader::is_built` meets its contract. By the class.
+-- Assumes nothing.
 use mathlib.Core.Path.{ap, sym}
 use Rattle.reading.specs.Tests.{is-built}
 use Rattle.records.specs.Says.{class}

@@ -1,3 +1,5 @@
+-- `reader::opened` meets its contract. Only a component record begins a component.
+-- Assumes nothing.
 use Rattle.reader.proofs.Kept.{kept-begin}
 use Rattle.timeline.specs.Design.{leaf}
 use borrow.Author.Needs.{needs}

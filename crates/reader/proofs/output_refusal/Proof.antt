@@ -1,3 +1,5 @@
+-- `reader::output_refusal` meets its contract. The three tests are those of the theory, in its order.
+-- Assumes nothing.
 use borrow.Author.Needs.{needs}
 use Rattle.reader.proofs.output_refusal.Statement.{statement}
 use Rattle.reader.proofs.output_refusal.Tie as tie

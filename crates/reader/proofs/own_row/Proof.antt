@@ -1,3 +1,5 @@
+-- `reader::own_row` meets its contract. Each field of the row is one of the reader's.
+-- Assumes nothing.
 use borrow.Author.Needs.{needs}
 use Rattle.reader.proofs.own_row.Statement.{statement}
 use Rattle.reader.proofs.own_row.Tie as tie

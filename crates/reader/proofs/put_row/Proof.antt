@@ -1,3 +1,5 @@
+-- `reader::put_row` meets its contract. Five stores, one after the other, are the row put in its place.
+-- Assumes nothing.
 use native.Mathlib.Omega.{arith}
 use lib.ListN.{length-set}
 use Rattle.reader.specs.Rows.{put-row}

@@ -1,3 +1,5 @@
+-- `reader::row_of` meets its contract. Five reads are the row.
+-- Assumes nothing.
 use mathlib.Core.Path.{refl}
 use Rattle.reader.specs.Rows.{row-in}
 use borrow.Author.Needs.{needs}

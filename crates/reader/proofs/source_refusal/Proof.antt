@@ -1,3 +1,5 @@
+-- `reader::source_refusal` meets its contract. By the kind of source; the port that it names is looked up in the file.
+-- Assumes nothing.
 use Prim.Native.Nat.{_+_}
 use mathlib.Core.Path.{_∙_}
 use mathlib.Core.Bool.{_&&_}

@@ -1,3 +1,5 @@
+-- `reader::start` meets its contract. Before the first record nothing is kept.
+-- Assumes nothing.
 use borrow.Author.Needs.{needs}
 use Rattle.reader.proofs.start.Statement.{statement}
 use Rattle.reader.proofs.start.Tie as tie

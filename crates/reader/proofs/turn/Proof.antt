@@ -1,3 +1,5 @@
+-- `reader::turn` meets its contract. By the kind of record: its refusal, or what is kept after it.
+-- Assumes nothing.
 use Prim.Native.Nat.{ℕ}
 use mathlib.Core.Path.{_≡_, refl, ap, sym, _∙_}
 use mathlib.Core.List.{[]}

@@ -1,3 +1,5 @@
+-- `rules::apart` meets its contract. The invariant: both tests hold of every invocation passed.
+-- Assumes nothing.
 use Prim.Native.Nat.{_-_, _≤_}
 use mathlib.Core.Path.{_≡_, refl}
 use native.Mathlib.Omega.{arith}

@@ -1,3 +1,5 @@
+-- `rules::below` meets its contract. A number shifted down by its width is zero exactly when it is below 2 to that width.
+-- Assumes nothing.
 use Rattle.rules.proofs.Shift.{none-left, all-below}
 use borrow.Author.Needs.{needs}
 use Rattle.rules.proofs.below.Statement.{statement}

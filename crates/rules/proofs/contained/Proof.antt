@@ -1,3 +1,5 @@
+-- `rules::contained` meets its contract. Both sums are those of the definition.
+-- Assumes nothing.
 use borrow.Author.Needs.{needs}
 use Rattle.rules.proofs.contained.Statement.{statement}
 use Rattle.rules.proofs.contained.Tie as tie

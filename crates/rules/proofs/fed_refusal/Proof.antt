@@ -1,3 +1,5 @@
+-- `rules::fed_refusal` meets its contract. The tests in the order of their numbers.
+-- Assumes nothing.
 use borrow.Author.Needs.{needs}
 use Rattle.rules.proofs.fed_refusal.Statement.{statement}
 use Rattle.rules.proofs.fed_refusal.Tie as tie

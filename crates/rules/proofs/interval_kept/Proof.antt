@@ -1,3 +1,5 @@
+-- `rules::interval_kept` meets its contract. The sum is that of the definition.
+-- Assumes nothing.
 use borrow.Author.Needs.{needs}
 use Rattle.rules.proofs.interval_kept.Statement.{statement}
 use Rattle.rules.proofs.interval_kept.Tie as tie

@@ -1,3 +1,5 @@
+-- `rules::invocation_refusal` meets its contract. The tests in the order of their numbers.
+-- Assumes nothing.
 use borrow.Author.Needs.{needs}
 use Rattle.rules.proofs.invocation_refusal.Statement.{statement}
 use Rattle.rules.proofs.invocation_refusal.Tie as tie

@@ -1,3 +1,5 @@
+-- `verdict::fault` meets its contract. By the number.
+-- Assumes nothing.
 use Rattle.verdict.proofs.Counts.{twelve}
 use borrow.Author.Needs.{needs}
 use Rattle.verdict.proofs.fault.Statement.{statement}

@@ -1,3 +1,5 @@
+-- `verdict::judge` meets its contract. What `read` answers, and zeros.
+-- Assumes nothing.
 use Prim.Native.Nat.{ℕ}
 use mathlib.Core.Path.{ap, _∙_}
 use lib.ListN.{replicate}

@@ -1,3 +1,5 @@
+-- `verdict::keep` meets its contract. The row that is asked for is kept where there is one.
+-- Assumes nothing.
 use mathlib.Core.Path.{ap, _∙_}
 use native.Mathlib.Omega.{arith}
 use borrow.Author.Tests.{lt-ltb, le-ltb}

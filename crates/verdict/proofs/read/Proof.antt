@@ -1,3 +1,5 @@
+-- `verdict::read` meets its contract. The table's length, then the blocks, then the records.
+-- Assumes nothing.
 use mathlib.Core.Path.{refl, ap, sym, _∙_}
 use native.Mathlib.Omega.{arith}
 use borrow.Author.Tests.{lt-ltb, le-ltb}

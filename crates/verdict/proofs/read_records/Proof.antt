@@ -1,3 +1,5 @@
+-- `verdict::read_records` meets its contract. The invariant: what the records left answer, from the present state, is what the whole list answers.
+-- Assumes nothing.
 use Prim.Native.Nat.{ℕ, _-_, _<_}
 use mathlib.Core.Path.{ap, sym, _∙_}
 use native.Mathlib.Omega.{arith}

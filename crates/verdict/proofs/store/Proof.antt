@@ -1,3 +1,5 @@
+-- `verdict::store` meets its contract. The row is stored where there is one.
+-- Assumes nothing.
 use borrow.Author.Tests.{lt-ltb, le-ltb}
 use borrow.Author.Needs.{needs}
 use Rattle.verdict.proofs.store.Statement.{statement}
