@@ -20,12 +20,13 @@ use Rattle.entry.specs.Records.{Record, component, parts, records}
 use Rattle.entry.specs.Answers as Entry
 use Rattle.entry.specs.Verdict.{verdict}
 use Rattle.entry.specs.Main.{accepted-exactly}
+use Rattle.reading.specs.Proofs.Encoded.{All-in-range, accepted-in-range}
 use Rattle.records.specs.Decoded.{decoded}
 use Rattle.records.specs.Encoded.{encoded}
 use Rattle.verdict.specs.Judgement.{sixteens, records-of, counts, judgement}
 use Rattle.claims.specs.File.{joined, list-bytes, file-of, Holds-lawful}
 use Rattle.claims.proofs.Pieces.{pieces, joined-all, length-joined, pieces-joined, sixteens-are}
-use Rattle.claims.proofs.Coded.{All-in-range, accepted-in-range, decode-encoded, sixteens-encoded, joined-small, encode-decoded, length-pieces}
+use Rattle.claims.proofs.Coded.{decode-encoded, sixteens-encoded, joined-small, encode-decoded, length-pieces}
 
 -- What acceptance has passed: the table's length, the blocks, the records.
 pub record Passed (file : List ℕ) (c r : ℕ) : Type 0 where

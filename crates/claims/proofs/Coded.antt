@@ -6,11 +6,10 @@ use mathlib.Core.List.{List, [], _∷_, map}
 use mathlib.Core.Logic.{_≢_}
 use lib.ListN.{length, take, drop}
 use Rattle.entry.specs.Records.{Record, wrong}
-use Rattle.entry.specs.Entered.{Entered, nothing, enter}
+use Rattle.entry.specs.Entered.{nothing}
 use Rattle.entry.specs.Asks.{In-range}
 use Rattle.entry.specs.Answers.{accepted}
-use Rattle.entry.specs.Verdict.{verdict}
-use Rattle.entry.specs.Laws.{Unbroken, accepted-unbroken}
+use Rattle.reading.specs.Proofs.Encoded.{All-in-range}
 use Rattle.numbers.specs.Numbers.{Bytes}
 use Rattle.numbers.proofs.Bytes as Bytes
 use Rattle.records.specs.Decoded.{decoded}
@@ -19,18 +18,6 @@ use Rattle.records.proofs.Main.{decoded-encoded, encoded-decoded}
 use Rattle.claims.specs.File.{joined}
 use Rattle.claims.proofs.Pieces.{pieces, Sixteens}
 use Rattle.claims.proofs.Sizes.{encoded-sixteen, encoded-small}
-
-unfoldable pub All-in-range : List Record → Type 0
-All-in-range [] = Unit
-All-in-range (r ∷ rs) = In-range r × All-in-range rs
-
-unbroken-in-range : (e : Entered) (rs : List Record) → Unbroken e rs → All-in-range rs
-unfolding Unbroken All-in-range
-unbroken-in-range e [] u = tt
-unbroken-in-range e (r ∷ rs) u = (u .0 .0, unbroken-in-range (enter e r) rs (u .1))
-
-pub accepted-in-range : (rs : List Record) (c r : ℕ) → verdict rs ≡ accepted c r → All-in-range rs
-accepted-in-range rs c r a = unbroken-in-range nothing rs ((accepted-unbroken rs c r a) .0)
 
 pub decode-encoded : (rs : List Record) → All-in-range rs → map decoded (map encoded rs) ≡ rs
 unfolding All-in-range

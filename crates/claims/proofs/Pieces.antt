@@ -1,17 +1,16 @@
 -- A list of bytes in pieces of sixteen: those of an accepted file are its records, and joined again they are its list.
 -- Assumes nothing.
-use Prim.Native.Nat.{ℕ, zero, suc, _+_, _*_, _≤_, _<_}
+use Prim.Native.Nat.{ℕ, zero, suc, _+_, _*_, _≤_}
 use mathlib.Core.Path.{_≡_, refl, _∙_}
 use mathlib.Core.List.{List, [], _∷_, _++_}
 use native.Mathlib.Omega.{arith}
 use lib.ListN.{length, take, drop, length-append}
 use lib.Seq.{take-add, take-all, drop-drop, take-at, drop-at}
-use borrow.Author.Tests.{lt-ltb}
 use Rattle.answers.specs.Answer.{accepted}
-use Rattle.blocks.specs.File.{record-answer}
 use Rattle.packing.specs.Packed.{unpacked}
 use Rattle.packing.proofs.Main as Packing
 use Rattle.look.specs.Look.{sixteen}
+use Rattle.verdict.proofs.Unpacked.{sixteen-unpacked}
 use Rattle.verdict.specs.Judgement.{sixteens}
 use Rattle.claims.specs.File.{joined}
 
@@ -57,14 +56,10 @@ pieces-joined (l ∷ ls) h =
 
 -- The records of a file that passes are the pieces of its list.
 module _ (file : List ℕ) (f : Packing.File file) where
-  sixteen-piece : (i : ℕ) → i < f .count → sixteen file i ≡ take 16 (drop (16 * i) (unpacked file))
-  unfolding record-answer
-  sixteen-piece i l = rw (f .passes, lt-ltb i (f .count) l) at (Packing.record-is file f i)
-
   sixteens-from : (i n : ℕ) → i + n ≤ f .count → sixteens file i n ≡ pieces (unpacked file) i n
   unfolding sixteens pieces
   sixteens-from i zero l = refl
-  sixteens-from i (suc n) l = cc (sixteen-piece i (omega arith), sixteens-from (suc i) n (omega arith))
+  sixteens-from i (suc n) l = cc (sixteen-unpacked file (f .count) (f .passes) i (omega arith), sixteens-from (suc i) n (omega arith))
 
   pub sixteens-are : sixteens file 0 (f .count) ≡ pieces (unpacked file) 0 (f .count)
   sixteens-are = sixteens-from 0 (f .count) (omega arith)

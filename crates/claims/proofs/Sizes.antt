@@ -11,12 +11,8 @@ use Rattle.entry.specs.Records.{Record, wrong, component, part, input, output, 
 use Rattle.entry.specs.Asks.{In-range}
 use Rattle.numbers.specs.Numbers.{bytes, Bytes}
 use Rattle.numbers.proofs.Bytes.{more, joined, zeros, bytes-small}
+use Rattle.records.proofs.There.{length-source}
 use Rattle.records.specs.Encoded.{class-byte, port-bytes, source-bytes, encoded}
-
-length-source : (s : Source) → length (source-bytes s) ≡ 15
-length-source (own i) = refl
-length-source (output-of j o) = refl
-length-source (constant v) = refl
 
 pub encoded-sixteen : (r : Record) → In-range r → length (encoded r) ≡ 16
 unfolding encoded

@@ -15,7 +15,7 @@ use Rattle.numbers.proofs.Bytes.{number-bytes}
 use Rattle.records.specs.Decoded.{from, source-in, argument-of, connection-of, decoded}
 use Rattle.records.specs.Encoded.{source-bytes, encoded}
 
-length-source : (s : Source) → length (source-bytes s) ≡ 15
+pub length-source : (s : Source) → length (source-bytes s) ≡ 15
 length-source (own i) = refl
 length-source (output-of j o) = refl
 length-source (constant v) = refl

@@ -14,7 +14,7 @@ use Rattle.entry.specs.Main.{accepted-exactly}
 use Rattle.entry.specs.Laws.{Unbroken, accepted-unbroken}
 use Rattle.reading.specs.Encoded.{Coding, Encodes}
 
-unfoldable All-in-range : List Record → Type 0
+unfoldable pub All-in-range : List Record → Type 0
 All-in-range [] = Unit
 All-in-range (r ∷ rs) = In-range r × All-in-range rs
 
@@ -23,7 +23,7 @@ unfolding Unbroken All-in-range
 unbroken-in-range e [] u = tt
 unbroken-in-range e (r ∷ rs) u = (u .0 .0, unbroken-in-range (enter e r) rs (u .1))
 
-accepted-in-range : (rs : List Record) (c r : ℕ) → verdict rs ≡ accepted c r → All-in-range rs
+pub accepted-in-range : (rs : List Record) (c r : ℕ) → verdict rs ≡ accepted c r → All-in-range rs
 accepted-in-range rs c r a = unbroken-in-range nothing rs ((accepted-unbroken rs c r a) .0)
 
 module _ {B : Type 0} (decode : B → Record) (encode : Record → B) (coding : Coding B decode encode) where
