@@ -3,13 +3,11 @@
 use Prim.Native.Nat.{ℕ, _*_, _/_, _%_, _≤_, _<_}
 use mathlib.Core.Path.{_≡_, refl, ap, sym, _∙_}
 use mathlib.Core.List.{List, [], _∷_, map}
-use mathlib.Core.Bool.{Bool, true, false, cond}
 use mathlib.Core.Logic.{_↔_}
 use native.Mathlib.Omega.{arith}
 use lib.ListN.{length, length-append, length-map}
-use lib.Dec.{ltb}
 use borrow.Author.Tests.{le-ltb, eq-eqb}
-use Rattle.answers.specs.Answer.{Answer, accepted, refused, then, Counts}
+use Rattle.answers.specs.Answer.{accepted}
 use Rattle.numbers.specs.Numbers.{Bytes}
 use Rattle.blocks.specs.File.{sound}
 use Rattle.packing.specs.Packed.{packed, unpacked}
@@ -23,32 +21,11 @@ use Rattle.entry.specs.Main.{accepted-exactly}
 use Rattle.reading.specs.Proofs.Encoded.{All-in-range, accepted-in-range}
 use Rattle.records.specs.Decoded.{decoded}
 use Rattle.records.specs.Encoded.{encoded}
-use Rattle.verdict.specs.Judgement.{sixteens, records-of, counts, judgement}
+use Rattle.verdict.specs.Judgement.{sixteens, records-of, judgement}
+use Rattle.verdict.proofs.Passed.{Passed, passed, length-records}
 use Rattle.claims.specs.File.{joined, list-bytes, file-of, Holds-lawful}
 use Rattle.claims.proofs.Pieces.{pieces, joined-all, length-joined, pieces-joined, sixteens-are}
-use Rattle.claims.proofs.Coded.{decode-encoded, sixteens-encoded, joined-small, encode-decoded, length-pieces}
-
--- What acceptance has passed: the table's length, the blocks, the records.
-pub record Passed (file : List ℕ) (c r : ℕ) : Type 0 where
-  pub count : ℕ
-  pub blocks : sound file ≡ accepted count
-  pub rules : verdict (records-of file count) ≡ Entry.accepted c r
-
-counted : (a : Entry.Answer) (c r : ℕ) → counts a ≡ accepted (record { components = c; records = r }) → a ≡ Entry.accepted c r
-counted (Entry.accepted d s) c r e =
-    let k : _≡_ {A = Counts} (record { components = d; records = s }) (record { components = c; records = r }) = cc in
-    ap (λ (x : Counts). Entry.accepted (x .components) (x .records)) k
-counted (Entry.refused n p) c r e = absurd (let z : _≡_ {A = ℕ} 0 1 = cc in omega arith)
-
-pub passed : (file : List ℕ) (numbers c r : ℕ) → judgement file numbers ≡ accepted (record { components = c; records = r }) → Passed file c r
-unfolding judgement
-passed file numbers c r e = go (ltb numbers 320) (sound file) refl e
-  where
-    go : (t : Bool) (a : Answer ℕ) → sound file ≡ a
-        → _≡_ {A = Answer Counts} (cond t (refused 13 0) (then a (λ (n : ℕ). counts (verdict (records-of file n))))) (accepted (record { components = c; records = r })) → Passed file c r
-    go true a q e = absurd (let z : _≡_ {A = ℕ} 0 1 = cc in omega arith)
-    go false (accepted n) q e = record { count = n; blocks = q; rules = counted (verdict (records-of file n)) c r e }
-    go false (refused n p) q e = absurd (let z : _≡_ {A = ℕ} 0 1 = cc in omega arith)
+use Rattle.claims.proofs.Coded.{decode-encoded, sixteens-encoded, joined-small, encode-decoded}
 
 module _ (file : List ℕ) (small : Bytes file) (c r : ℕ) (p : Passed file c r) where
   abbrev holds : Packing.File file
@@ -66,13 +43,10 @@ module _ (file : List ℕ) (small : Bytes file) (c r : ℕ) (p : Passed file c r
   pub file-again : packed (joined (map encoded (records-of file (p .count)))) ≡ file
   file-again = ap packed list-again ∙ Packing.back-and-there file holds
 
-  length-sixteens : length (sixteens file 0 (p .count)) ≡ p .count
-  length-sixteens = rw (sixteens-are file holds) (length-pieces (unpacked file) 0 (p .count))
-
   to-design : Holds-lawful file c r
   to-design =
       let (D, lawful, e, g, h) = (accepted-exactly (records-of file (p .count)) c r) .0 (p .rules) in
-      let k : r ≡ p .count = sym h ∙ length-map (sixteens file 0 (p .count)) decoded ∙ length-sixteens in
+      let k : r ≡ p .count = sym h ∙ length-records file (p .count) in
       let m = Packing.count-is file holds in
       let q = (Packing.list-of file holds) .allowed .most in
       record {

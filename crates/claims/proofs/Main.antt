@@ -27,8 +27,9 @@ use Rattle.timetable.specs.Main as Timetable
 use Rattle.packing.specs.Packed.{packed}
 use Rattle.records.specs.Encoded.{encoded}
 use Rattle.verdict.specs.Judgement.{records-of, counts, judgement}
+use Rattle.verdict.proofs.Passed.{passed}
 use Rattle.claims.specs.File.{joined, file-of, Holds-lawful, said-records, said-design}
-use Rattle.claims.proofs.Accepted.{passed, file-again, judged-exactly}
+use Rattle.claims.proofs.Accepted.{file-again, judged-exactly}
 
 -- Demand 2: "A file is accepted exactly when the rules hold": when it is the packing of the record list of a design that is in range, whole and keeps them.
 pub accepted-exactly : (file : List ℕ) → Bytes file → (numbers : ℕ) → 320 ≤ numbers → (c r : ℕ)

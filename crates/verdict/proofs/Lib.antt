@@ -5,3 +5,5 @@ pub mod Turns
 pub mod Reached
 pub mod Counts
 pub mod Unpacked
+pub mod Passed
+pub mod Copied

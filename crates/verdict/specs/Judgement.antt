@@ -3,6 +3,7 @@
 use Prim.Native.Nat.{ℕ, zero, suc}
 use mathlib.Core.Bool.{cond}
 use mathlib.Core.List.{List, [], _∷_, map}
+use lib.ListN.{length, take}
 use lib.Dec.{ltb}
 use Rattle.answers.specs.Answer.{Answer, accepted, refused, then, Counts}
 use Rattle.blocks.specs.File.{sound}
@@ -37,3 +38,7 @@ judgement file numbers = cond (ltb numbers 320) (refused 13 0) (then (sound file
 abbrev pub Filled : Answer Counts → List ℕ → (rows : List ℕ) → Type 0
 Filled (accepted k) file rows = Table-of (design (records-of file (k .records))) (λ c. row-in rows c)
 Filled (refused n p) file rows = Unit
+
+-- The first 64 rows of a table that has them, otherwise what there was.
+abbrev pub copied : (table rows : List ℕ) → List ℕ
+copied table rows = cond (ltb (length table) 320) rows (take 320 table)

@@ -9,7 +9,7 @@ ghost use Prim.Native.Nat.{_+_, _*_, _/_, _≤_, _<_};
 ghost use lib.ListN.{length, replicate};
 ghost use Rattle.answers.specs.Answer.{number, judged};
 ghost use Rattle.reader.specs.Rows.{row};
-ghost use Rattle.verdict.specs.Judgement.{counts, judgement, Filled};
+ghost use Rattle.verdict.specs.Judgement.{counts, judgement, Filled, copied};
 ghost use Rattle.verdict.specs.Run.{kept, stored, waits, empty, rest};
 
 fn half(x: usize) -> u16
@@ -148,6 +148,31 @@ pub fn judge(file: &[u8], table: &mut [u16]) -> Verdict
     ensures { λ r. ⌜ (judged r ≡ judgement (now (file .entry)) (length (now (table .entry)))) × (now (table .exit) ≡ replicate (length (now (table .entry))) 0) ⌝ }
 {
     let verdict = read(file, table);
+    clear(table);
+    verdict
+}
+
+// The first 64 rows of a table that has them.
+fn copy(table: &[u16], rows: &mut [u16])
+    requires { ⌜ length (now rows) ≡ 320 ⌝ }
+    ensures { λ _. ⌜ now (rows .exit) ≡ copied (now (table .entry)) (now (rows .entry)) ⌝ }
+{
+    if table.len() < 320 {
+        return;
+    }
+    let mut i = 0;
+    while i < 320 {
+        rows[i] = table[i];
+        i += 1;
+    }
+}
+
+// The verdict, with the row of each component of an accepted file handed on, and a table of zeros.
+pub fn open(file: &[u8], table: &mut [u16], rows: &mut [u16; 320]) -> Verdict
+    ensures { λ r. ⌜ (judged r ≡ judgement (now (file .entry)) (length (now (table .entry)))) × Filled (judged r) (now (file .entry)) (now (rows .exit)) × (now (table .exit) ≡ replicate (length (now (table .entry))) 0) ⌝ }
+{
+    let verdict = read(file, table);
+    copy(table, rows);
     clear(table);
     verdict
 }

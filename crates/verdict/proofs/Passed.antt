@@ -1,0 +1,64 @@
+-- What acceptance has passed: the table's length, the blocks, the records.
+-- Assumes nothing.
+use Prim.Native.Nat.{ℕ, zero, suc}
+use mathlib.Core.Path.{_≡_, refl, sym, ap, _∙_}
+use mathlib.Core.List.{List}
+use mathlib.Core.Bool.{Bool, true, false, cond}
+use native.Mathlib.Omega.{arith}
+use lib.ListN.{length, length-map}
+use lib.Dec.{ltb}
+use Rattle.answers.specs.Answer.{Answer, accepted, refused, then, Counts}
+use Rattle.blocks.specs.File.{sound}
+use Rattle.timeline.specs.Rules.{Lawful}
+use Rattle.entry.specs.Records.{records}
+use Rattle.entry.specs.Entered.{design}
+use Rattle.entry.specs.Answers as Entry
+use Rattle.entry.specs.Verdict.{verdict}
+use Rattle.entry.specs.Main.{accepted-exactly, its-records}
+use Rattle.records.specs.Decoded.{decoded}
+use Rattle.verdict.specs.Judgement.{sixteens, records-of, counts, judgement}
+
+pub record Passed (file : List ℕ) (c r : ℕ) : Type 0 where
+  pub count : ℕ
+  pub blocks : sound file ≡ accepted count
+  pub rules : verdict (records-of file count) ≡ Entry.accepted c r
+
+counted : (a : Entry.Answer) (c r : ℕ) → counts a ≡ accepted (record { components = c; records = r }) → a ≡ Entry.accepted c r
+counted (Entry.accepted d s) c r e =
+    let k : _≡_ {A = Counts} (record { components = d; records = s }) (record { components = c; records = r }) = cc in
+    ap (λ (x : Counts). Entry.accepted (x .components) (x .records)) k
+counted (Entry.refused n p) c r e = absurd (let z : _≡_ {A = ℕ} 0 1 = cc in omega arith)
+
+pub passed : (file : List ℕ) (numbers c r : ℕ) → judgement file numbers ≡ accepted (record { components = c; records = r }) → Passed file c r
+unfolding judgement
+passed file numbers c r e = go (ltb numbers 320) (sound file) refl e
+  where
+    go : (t : Bool) (a : Answer ℕ) → sound file ≡ a
+        → _≡_ {A = Answer Counts} (cond t (refused 13 0) (then a (λ (n : ℕ). counts (verdict (records-of file n))))) (accepted (record { components = c; records = r })) → Passed file c r
+    go true a q e = absurd (let z : _≡_ {A = ℕ} 0 1 = cc in omega arith)
+    go false (accepted n) q e = record { count = n; blocks = q; rules = counted (verdict (records-of file n)) c r e }
+    go false (refused n p) q e = absurd (let z : _≡_ {A = ℕ} 0 1 = cc in omega arith)
+
+pub enough-rows : (file : List ℕ) (numbers : ℕ) (k : Counts) → judgement file numbers ≡ accepted k → ltb numbers 320 ≡ false
+unfolding judgement
+enough-rows file numbers k e = go (ltb numbers 320) e
+  where
+    go : (t : Bool) → _≡_ {A = Answer Counts} (cond t (refused 13 0) (then (sound file) (λ (n : ℕ). counts (verdict (records-of file n))))) (accepted k) → t ≡ false
+    go true e = absurd (let z : _≡_ {A = ℕ} 0 1 = cc in omega arith)
+    go false e = refl
+
+length-sixteens : (file : List ℕ) (i n : ℕ) → length (sixteens file i n) ≡ n
+unfolding sixteens
+length-sixteens file i zero = refl
+length-sixteens file i (suc n) = ap suc (length-sixteens file (suc i) n)
+
+pub length-records : (file : List ℕ) (n : ℕ) → length (records-of file n) ≡ n
+length-records file n = length-map (sixteens file 0 n) decoded ∙ length-sixteens file 0 n
+
+module _ (file : List ℕ) (c r : ℕ) (p : Passed file c r) where
+  -- As many records as the blocks hold.
+  pub record-total : r ≡ p .count
+  record-total = let (D, lawful, e, g, h) = (accepted-exactly (records-of file (p .count)) c r) .0 (p .rules) in sym h ∙ length-records file (p .count)
+
+  pub said-lawful : Lawful (design (records-of file r)) × (records (design (records-of file r)) ≡ records-of file r)
+  said-lawful = rw record-total (its-records (records-of file (p .count)) c r (p .rules))
