@@ -32,7 +32,7 @@ module _ (file : List ℕ) (i : ℕ) where
   sixteen-small small = taken 16 (drop (record-place i) file) (dropped (record-place i) file small)
 
   -- Byte j of record i.
-  byte-at : (j : ℕ) → j < 16 → getD (sixteen file i) j 0 ≡ getD file (record-place i + j) 0
+  pub byte-at : (j : ℕ) → j < 16 → getD (sixteen file i) j 0 ≡ getD file (record-place i + j) 0
   byte-at j l = getD-take 16 (drop (record-place i) file) j 0 l ∙ getD-drop (record-place i) file j 0
 
   pub look-is : record-place i + 16 ≤ length file → look file i ≡ the-port (sixteen file i)

@@ -1,11 +1,11 @@
 -- What acceptance has passed: the table's length, the blocks, the records.
 -- Assumes nothing.
-use Prim.Native.Nat.{ℕ, zero, suc}
+use Prim.Native.Nat.{ℕ}
 use mathlib.Core.Path.{_≡_, refl, sym, ap, _∙_}
 use mathlib.Core.List.{List}
 use mathlib.Core.Bool.{Bool, true, false, cond}
 use native.Mathlib.Omega.{arith}
-use lib.ListN.{length, length-map}
+use lib.ListN.{length}
 use lib.Dec.{ltb}
 use Rattle.answers.specs.Answer.{Answer, accepted, refused, then, Counts}
 use Rattle.blocks.specs.File.{sound}
@@ -15,8 +15,8 @@ use Rattle.entry.specs.Entered.{design}
 use Rattle.entry.specs.Answers as Entry
 use Rattle.entry.specs.Verdict.{verdict}
 use Rattle.entry.specs.Main.{accepted-exactly, its-records}
-use Rattle.records.specs.Decoded.{decoded}
-use Rattle.verdict.specs.Judgement.{sixteens, records-of, counts, judgement}
+use Rattle.verdict.proofs.Whole.{length-from}
+use Rattle.verdict.specs.Judgement.{records-of, counts, judgement}
 
 pub record Passed (file : List ℕ) (c r : ℕ) : Type 0 where
   pub count : ℕ
@@ -47,13 +47,8 @@ enough-rows file numbers k e = go (ltb numbers 320) e
     go true e = absurd (let z : _≡_ {A = ℕ} 0 1 = cc in omega arith)
     go false e = refl
 
-length-sixteens : (file : List ℕ) (i n : ℕ) → length (sixteens file i n) ≡ n
-unfolding sixteens
-length-sixteens file i zero = refl
-length-sixteens file i (suc n) = ap suc (length-sixteens file (suc i) n)
-
 pub length-records : (file : List ℕ) (n : ℕ) → length (records-of file n) ≡ n
-length-records file n = length-map (sixteens file 0 n) decoded ∙ length-sixteens file 0 n
+length-records file n = length-from file 0 n
 
 module _ (file : List ℕ) (c r : ℕ) (p : Passed file c r) where
   -- As many records as the blocks hold.

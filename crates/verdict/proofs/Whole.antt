@@ -31,7 +31,7 @@ pub record Holds (file : List ℕ) (n : ℕ) : Type 0 where
   pub small : Bytes file
 
 module _ (file : List ℕ) where
-  length-from : (i n : ℕ) → length (map decoded (sixteens file i n)) ≡ n
+  pub length-from : (i n : ℕ) → length (map decoded (sixteens file i n)) ≡ n
   unfolding sixteens
   length-from i zero = refl
   length-from i (suc n) = ap suc (length-from (suc i) n)
@@ -46,16 +46,16 @@ module _ (file : List ℕ) where
   record-there n j x l = at-from 0 n j x l ∙ ap (λ (k : ℕ). decoded (sixteen file k)) (zero-add j)
 
   module _ (n : ℕ) (h : Holds file n) where
-    in-file : (j : ℕ) → j < n → record-place j + 16 ≤ length file
+    pub in-file : (j : ℕ) → j < n → record-place j + 16 ≤ length file
     in-file j l = let w = h .within in omega arith
 
-    looked : (j : ℕ) (x : Record) → At (records-of file n) j x → (decoded (sixteen file j) ≡ x) × (record-place j + 16 ≤ length file) × (j < 65536)
+    pub looked : (j : ℕ) (x : Record) → At (records-of file n) j x → (decoded (sixteen file j) ≡ x) × (record-place j + 16 ≤ length file) × (j < 65536)
     looked j x a =
         let l : j < n = rw (length-from 0 n) at (a .below) in
         let m = h .few in
         (sym (record-there n j wrong l) ∙ a .is wrong, in-file j l, omega arith)
 
-    right : Reads Run view next Own (records-of file n) (look file)
+    pub right : Reads Run view next Own (records-of file n) (look file)
     right =
         record {
           ranged = λ j l. (let m : j < n = rw (length-from 0 n) at l in rw (record-there n j wrong m) (decoded-ranged (sixteen file j) (sixteen-small file j (h .small))));
