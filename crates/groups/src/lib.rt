@@ -2,7 +2,6 @@
 ghost use mathlib.Core.Path.{_≡_};
 ghost use Prim.Native.Nat.{_-_, _*_, _/_, _≤_, _<_};
 ghost use lib.ListN.{length};
-ghost use Rattle.blocks.specs.File.{record-place};
 ghost use Rattle.groups.specs.Groups.{Lies, kind, first-number, second-number, past-instances};
 
 // An invocation: the instance that it starts, and when.
@@ -11,19 +10,11 @@ pub struct Call {
     pub offset: u16,
 }
 
-// "31 slots of 16 bytes" after the 8 bytes of a block's head, and 8 bytes behind them.
-fn place_of(i: usize) -> usize
-    requires { ⌜ i < 3968 ⌝ }
-    ensures { λ r. ⌜ r ≡ record-place i ⌝ }
-{
-    16 * i + 16 * (i / 31) + 8
-}
-
 fn kind_at(file: &[u8], i: usize) -> u8
     requires { ⌜ Lies (now file) i ⌝ }
     ensures { λ r. ⌜ r ≡ kind (now (file .entry)) i ⌝ }
 {
-    file[place_of(i)]
+    file[look::place_of(i)]
 }
 
 // The component in an instance record.
@@ -31,7 +22,7 @@ pub fn component_at(file: &[u8], i: usize) -> u16
     requires { ⌜ Lies (now file) i ⌝ }
     ensures { λ r. ⌜ r ≡ first-number (now (file .entry)) i ⌝ }
 {
-    numbers::two(file, place_of(i) + 2)
+    numbers::two(file, look::place_of(i) + 2)
 }
 
 // The instance and the offset in an invocation record.
@@ -39,7 +30,7 @@ pub fn call_at(file: &[u8], i: usize) -> Call
     requires { ⌜ Lies (now file) i ⌝ }
     ensures { λ r. ⌜ (r .instance ≡ first-number (now (file .entry)) i) × (r .offset ≡ second-number (now (file .entry)) i) ⌝ }
 {
-    let at = place_of(i);
+    let at = look::place_of(i);
     Call {
         instance: numbers::two(file, at + 2),
         offset: numbers::two(file, at + 4),

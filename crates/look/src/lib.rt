@@ -11,7 +11,7 @@ ghost use Rattle.records.specs.Says.{says, port};
 ghost use Rattle.look.specs.Look.{sixteen, look};
 
 // "31 slots of 16 bytes" after the 8 bytes of a block's head, and 8 bytes behind them.
-fn place_of(number: usize) -> usize
+pub fn place_of(number: usize) -> usize
     requires { ⌜ number < 8589934592 ⌝ }
     ensures { λ r. ⌜ r ≡ record-place number ⌝ }
 {
