@@ -1,9 +1,11 @@
 //! Document 01 in plain Rust, to compare the verified library with.
 //!
 //! `plain` is written for speed, `naive` straight from the rules; they share no code, and the tests hold one against the
-//! other. `designs` writes files to judge, `cases` gives some of them a name and an answer.
+//! other. `designs` writes files to judge, `cases` gives some of them a name and an answer, `printed` says what the programs
+//! print for a file.
 
 pub mod cases;
 pub mod designs;
 pub mod naive;
 pub mod plain;
+pub mod printed;

@@ -117,3 +117,31 @@ pub fn started(fd: i32, row: &[u8]) {
     number(fd, numbers::two(row, 6) as u64);
     io::write_all(fd, b"\n");
 }
+
+// The first k rows of component c, or as many as there are.
+pub fn lowered_rows(fd: i32, file: &[u8], c: usize, rows: &[u8], k: usize) {
+    let mut at = 0;
+    let mut left = k;
+    while 0 < left {
+        if rows.len() - at < 16 {
+            return;
+        }
+        lowered(fd, file, c, &rows[at..at + 16]);
+        at += 16;
+        left -= 1;
+    }
+}
+
+// The first k rows of a flat listing, or as many as there are.
+pub fn started_rows(fd: i32, rows: &[u8], k: usize) {
+    let mut at = 0;
+    let mut left = k;
+    while 0 < left {
+        if rows.len() - at < 8 {
+            return;
+        }
+        started(fd, &rows[at..at + 8]);
+        at += 8;
+        left -= 1;
+    }
+}

@@ -1,13 +1,14 @@
-//! Compares a judging program with the plain implementation: a command that reads a file on standard input and prints
-//! `accepted C R` or `refused N at P`.
+//! Compares a program with the plain implementation: a command that reads a file on standard input and prints what `judge`,
+//! `lower` or `list` prints.
 //!
-//!     differ [-n FILES] [-s SEED] COMMAND ARGUMENTS..
+//!     differ [-n FILES] [-s SEED] judge|lower|list COMMAND ARGUMENTS..
 //!
 //! It runs on every case and on so many files by chance (500), and reports the first differences, each with the place
 //! where it keeps the file. The exit status is 0 where there is none, 1 where there is one, 2 on misuse.
 
-use dansevik::cases::{all, line};
+use dansevik::cases::all;
 use dansevik::designs::{damaged, damaged_blocks, drawn, Chance};
+use dansevik::printed;
 use std::io::{self, Write};
 use std::process::{exit, Command, Stdio};
 use std::{env, fs};
@@ -15,23 +16,35 @@ use std::{env, fs};
 /// Most differences that are reported.
 const SHOWN: usize = 10;
 
+/// What is expected of a file.
+type Expected = fn(&[u8]) -> String;
+
 struct Asked {
     files: u64,
     seed: u64,
+    expected: Expected,
     command: Vec<String>,
 }
 
+fn expected(verb: &str) -> Option<Expected> {
+    match verb {
+        "judge" => Some(printed::judged),
+        "lower" => Some(printed::lowered),
+        "list" => Some(|file| printed::listed(file, None)),
+        _ => None,
+    }
+}
+
 fn asked() -> Option<Asked> {
-    let mut asked = Asked { files: 500, seed: 1, command: vec![] };
+    let (mut files, mut seed) = (500, 1);
     let mut words = env::args().skip(1);
     while let Some(word) = words.next() {
         match word.as_str() {
-            "-n" => asked.files = words.next()?.parse().ok()?,
-            "-s" => asked.seed = words.next()?.parse().ok()?,
-            _ => {
-                asked.command.push(word);
-                asked.command.extend(words);
-                return Some(asked);
+            "-n" => files = words.next()?.parse().ok()?,
+            "-s" => seed = words.next()?.parse().ok()?,
+            verb => {
+                let (expected, command) = (expected(verb)?, words.collect::<Vec<String>>());
+                return if command.is_empty() { None } else { Some(Asked { files, seed, expected, command }) };
             }
         }
     }
@@ -68,7 +81,7 @@ fn main() -> io::Result<()> {
     let asked = match asked() {
         Some(asked) => asked,
         None => {
-            eprintln!("usage: differ [-n FILES] [-s SEED] COMMAND ARGUMENTS..");
+            eprintln!("usage: differ [-n FILES] [-s SEED] judge|lower|list COMMAND ARGUMENTS..");
             exit(2);
         }
     };
@@ -80,7 +93,7 @@ fn main() -> io::Result<()> {
     let mut compared = 0;
     let mut different = 0;
     for (name, file) in cases.chain(drawn) {
-        let expected = format!("{}\n", line(&file));
+        let expected = (asked.expected)(&file);
         let found = printed(&asked.command, &file)?;
         compared += 1;
         if found == expected {
