@@ -169,7 +169,7 @@ fn copy(table: &[u16], rows: &mut [u16])
 
 // The verdict, with the row of each component of an accepted file handed on, and a table of zeros.
 pub fn open(file: &[u8], table: &mut [u16], rows: &mut [u16; 320]) -> Verdict
-    ensures { λ r. ⌜ (judged r ≡ judgement (now (file .entry)) (length (now (table .entry)))) × Filled (judged r) (now (file .entry)) (now (rows .exit)) × (now (table .exit) ≡ replicate (length (now (table .entry))) 0) ⌝ }
+    ensures { λ r. ⌜ (judged r ≡ judgement (now (file .entry)) (length (now (table .entry)))) × Filled (judged r) (now (file .entry)) (now (rows .exit)) × (now (table .exit) ≡ replicate (length (now (table .entry))) 0) × (length (now (rows .exit)) ≡ 320) ⌝ }
 {
     let verdict = read(file, table);
     copy(table, rows);

@@ -21,7 +21,7 @@ same-length : tie.Need-same-length
 same-length c = search needs
 
 returns : tie.Need-returns
-returns c = (c .before .before .before .before .before .before .before .before .before .read .ensures .0, rw (c .before .before .before .before .copy .ensures) (filled-copied _ _ (c .before .before .before .before .before .before .before .before .before .read .last .1 .0) _ _ (c .before .before .before .before .before .before .before .before .before .read .kept .1 .0) (c .before .before .before .before .before .before .before .before .before .read .ensures .0) (c .before .before .before .before .before .before .before .before .before .read .ensures .1)), c .before .before .clear .ensures ∙ ap (λ (k : ℕ). replicate k 0) (c .before .before .before .before .before .before .before .before .before .read .kept .1 .0))
+returns c = (c .before .before .before .before .before .before .before .before .before .read .ensures .0, rw (c .before .before .before .before .copy .ensures) (filled-copied _ _ (c .before .before .before .before .before .before .before .before .before .read .last .1 .0) _ _ (c .before .before .before .before .before .before .before .before .before .read .kept .1 .0) (c .before .before .before .before .before .before .before .before .before .read .ensures .0) (c .before .before .before .before .before .before .before .before .before .read .ensures .1)), c .before .before .clear .ensures ∙ ap (λ (k : ℕ). replicate k 0) (c .before .before .before .before .before .before .before .before .before .read .kept .1 .0), search needs)
 
 pub open-spec : {M : Type 1} → statement M
 open-spec = tie.close (tie.spec read-requires copy-requires clear-requires same-length returns)
