@@ -4,8 +4,10 @@ use Prim.Native.Nat.{ℕ, zero, suc, _+_, _-_, _*_, _≤_, _<_, max}
 use mathlib.Core.Path.{_≡_, refl, sym, ap, _∙_}
 use mathlib.Core.List.{List, [], _∷_, _++_, append-nil}
 use native.Mathlib.Omega.{arith}
+use native.Mathlib.Nat.{le-max-left, le-max-right, max-le}
+use native.Mathlib.Decide.{ℕ-discrete}
 use native.Mathlib.Numerals.{add-one}
-use lib.ListN.{length, take, drop, drop-of-length-le}
+use lib.ListN.{length, take, drop, length-take, length-drop, drop-of-length-le}
 use lib.Seq.{drop-at}
 use Rattle.packing.proofs.Writes.{next-part, as-long}
 use Rattle.look.specs.Look.{look}
@@ -15,7 +17,11 @@ use Rattle.timetable.specs.Bytes.{row-bytes, rows-bytes}
 use Rattle.timetable.specs.Laws.{length-bytes, bytes-append}
 use Rattle.timetable.specs.Proofs.Lists.{length-list}
 use Rattle.rows.specs.declared.Use.{Use}
-use Rattle.rows.specs.Rows.{latest, guard-row, invocation-rows, output-row, output-rows}
+use Rattle.rows.specs.Rows.{latest, guard-row, output-row}
+
+-- A part of n bytes from place a on.
+pub part-long : (a n : ℕ) (l : List ℕ) → a + n ≤ length l → length (take (a + n - a) (drop a l)) ≡ n
+part-long a n l h = simp (length-take, length-drop) (omega arith)
 
 pub bytes-one : (r : Row) → rows-bytes (r ∷ []) ≡ row-bytes r
 unfolding rows-bytes
@@ -48,6 +54,25 @@ rows-kept l d out a h e = e ∙ ap (λ (x : List ℕ). rows-bytes l ++ x) (sym (
 pub latest-more : (file : List ℕ) (i p m e : ℕ) → m ≡ latest file i p → e ≡ (look file (i + p)) .end → max m e ≡ latest file i (p + 1)
 unfolding latest
 latest-more file i p m e h k = rw (add-one p, h, k)
+
+-- Each end is at most the latest, and the latest is the least such number.
+module _ (file : List ℕ) (i : ℕ) where
+  pub latest-above : (n p : ℕ) → p < n → (look file (i + p)) .end ≤ latest file i n
+  unfolding latest
+  latest-above zero p l = absurd (omega arith)
+  latest-above (suc n) p l = go (ℕ-discrete p n) (latest-above n p)
+    where
+      go : Dec (p ≡ n) → (p < n → (look file (i + p)) .end ≤ latest file i n) → (look file (i + p)) .end ≤ max (latest file i n) ((look file (i + n)) .end)
+      go (yes e) h = rw e (le-max-right (latest file i n) ((look file (i + n)) .end))
+      go (no d) h =
+          let k = h (omega arith) in
+          let m = le-max-left (latest file i n) ((look file (i + n)) .end) in
+          omega arith
+
+  pub latest-least : (n x : ℕ) → ((p : ℕ) → p < n → (look file (i + p)) .end ≤ x) → latest file i n ≤ x
+  unfolding latest
+  latest-least zero x h = omega arith
+  latest-least (suc n) x h = max-le (latest-least n x (λ p l. h p (omega arith))) (h n (omega arith))
 
 -- The rows of an invocation up to its input n.
 module _ (file : List ℕ) (u : Use) where

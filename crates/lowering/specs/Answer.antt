@@ -1,0 +1,35 @@
+-- What lowering answers, and what it leaves in the lent bytes. (01, Answers; Lowering)
+-- Assumes nothing.
+use Prim.Native.Nat.{ℕ, _*_}
+use mathlib.Core.Bool.{cond, _&&_}
+use mathlib.Core.List.{List, _++_}
+use lib.ListN.{length, drop}
+use lib.Dec.{ltb}
+use Rattle.answers.specs.Answer.{Answer, accepted, refused, then, Counts}
+use Rattle.timeline.specs.Design.{Design, class}
+use Rattle.reading.specs.Tests.{is-built}
+use Rattle.timetable.specs.Rows.{Row, rows}
+use Rattle.timetable.specs.Bytes.{rows-bytes}
+use Rattle.verdict.specs.Judgement.{judgement}
+use Rattle.groups.specs.Groups.{design-of}
+
+-- "14: component asked for is absent, or the component is a leaf when lowering": at "its number".
+-- "Then every other 13", at 0: the lent bytes are too few for sixteen a row.
+unfoldable pub component-rows : Design → (asked room : ℕ) → Answer (List Row)
+component-rows D c room =
+    cond (ltb c (length D) && is-built (class D c)) (cond (ltb room (16 * length (rows D c))) (refused 13 0) (accepted (rows D c))) (refused 14 c)
+
+-- "Lowering and listing judge the whole file first, with the same table." The rows of the component asked for, or the first refusal.
+unfoldable pub lowered : (file : List ℕ) → (numbers asked room : ℕ) → Answer (List Row)
+lowered file numbers asked room =
+    then (judgement file numbers) (λ (k : Counts). component-rows (design-of file (k .records)) asked room)
+
+-- "Acceptance hands back: [..] from lowering and listing the number of rows."
+abbrev pub how-many : Answer (List Row) → Answer ℕ
+how-many (accepted l) = accepted (length l)
+how-many (refused n p) = refused n p
+
+-- The rows, "and bytes past the written part keep their values"; of a refusal, "lent output keeps every byte".
+abbrev pub left : Answer (List Row) → (old : List ℕ) → List ℕ
+left (accepted l) old = rows-bytes l ++ drop (16 * length l) old
+left (refused n p) old = old
