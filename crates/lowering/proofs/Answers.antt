@@ -24,7 +24,7 @@ use Rattle.lowering.specs.Stands.{all-rows, Stands}
 use Rattle.lowering.specs.Answer.{component-rows, left}
 use Rattle.lowering.proofs.Written.{rows-total}
 
-built-class : (k : Class) → is-built k ≡ true → k ≡ built
+pub built-class : (k : Class) → is-built k ≡ true → k ≡ built
 unfolding is-built
 built-class leaf e = absurd (false≢true e)
 built-class built e = refl
