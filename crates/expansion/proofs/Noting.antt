@@ -5,14 +5,14 @@ use mathlib.Core.Path.{_≡_, ap, sym, _∙_}
 use mathlib.Core.List.{List, _++_, append-assoc, append-nil}
 use native.Mathlib.Omega.{arith}
 use native.Mathlib.Decide.{decLt}
-use lib.ListN.{length, getD, set, length-set}
+use lib.ListN.{length, set, length-set}
 use lib.Seq.{getD-set-same, getD-set-other}
 use Rattle.timeline.specs.Design.{Design, invocation-count, invoked, offset}
 use Rattle.timeline.specs.Rules.{Lawful}
 use Rattle.timeline.specs.Flat.{row-count, units-before, rows-from}
 use Rattle.timeline.specs.Proofs.Rows.{rows-none}
 use Rattle.expansion.specs.Notes.{note-component, note-offset, note-units, join-from, put-note}
-use Rattle.expansion.specs.Noted.{capped, Named, note-rows, invocation-rows, Notes-of}
+use Rattle.expansion.specs.Noted.{capped, Named, note-rows, invocation-rows, Notes-of, Alike}
 use Rattle.expansion.proofs.Listed.{join-from-same}
 use Rattle.expansion.proofs.Units.{units-within}
 
@@ -24,11 +24,18 @@ join-from-last (suc n) e f =
     let z : e + 1 + n ≡ e + suc n = omega arith in
     ap (λ r. f e ++ r) (join-from-last n (e + 1) f ∙ rw z) ∙ sym (append-assoc (f e) (join-from n (e + 1) f) (f (e + suc n)))
 
--- The notes before place z are the same in both.
-pub record Alike (new old : List ℕ) (z : ℕ) : Type 0 where
-  pub component-same : (e : ℕ) → e < z → note-component new e ≡ note-component old e
-  pub offset-same : (e : ℕ) → e < z → note-offset new e ≡ note-offset old e
-  pub units-same : (e : ℕ) → e < z → note-units new e ≡ note-units old e
+module _ (new old : List ℕ) (z : ℕ) (s : Alike new old z) (e : ℕ) (l : e < z) where
+  alike-component : note-component new e ≡ note-component old e
+  unfolding note-component
+  alike-component = s (3 * e) (omega arith)
+
+  alike-offset : note-offset new e ≡ note-offset old e
+  unfolding note-offset
+  alike-offset = s (3 * e + 1) (omega arith)
+
+  alike-units : note-units new e ≡ note-units old e
+  unfolding note-units
+  alike-units = s (3 * e + 2) (omega arith)
 
 module _ (D : Design) (c : ℕ) where
   pub notes-start : (noted : List ℕ) (a : ℕ) → Notes-of D noted c 0 a a
@@ -46,10 +53,10 @@ module _ (D : Design) (c : ℕ) where
     named = λ e l m. let w = n .named e l m in record {
       invocation = w .invocation;
       below = w .below;
-      component-is = s .component-same e m ∙ w .component-is;
+      component-is = alike-component new old z s e m ∙ w .component-is;
       live = w .live;
     };
-    same-rows = λ h t u. join-from-same (z - a) a (λ e. rows-from D (note-component new e) (t + note-offset new e) (u + note-units new e)) (λ e. rows-from D (note-component old e) (t + note-offset old e) (u + note-units old e)) (λ e l m. let k : e < z = (let o = n .order in omega arith) in rw (s .component-same e k, s .offset-same e k, s .units-same e k)) ∙ n .same-rows h t u;
+    same-rows = λ h t u. join-from-same (z - a) a (λ e. rows-from D (note-component new e) (t + note-offset new e) (u + note-units new e)) (λ e. rows-from D (note-component old e) (t + note-offset old e) (u + note-units old e)) (λ e l m. let k : e < z = (let o = n .order in omega arith) in rw (alike-component new old z s e k, alike-offset new old z s e k, alike-units new old z s e k)) ∙ n .same-rows h t u;
   }
 
   module _ (noted : List ℕ) (j a z : ℕ) (n : Notes-of D noted c j a z) where
@@ -99,18 +106,11 @@ module _ (D : Design) (c : ℕ) where
 -- ---- a note put at place z
 module _ (noted : List ℕ) (z component offset units : ℕ) where
   pub put-alike : Alike (put-note noted z component offset units) noted z
-  unfolding put-note note-component note-offset note-units
-  put-alike = record {
-    component-same = λ e l. before (3 * e) (omega arith);
-    offset-same = λ e l. before (3 * e + 1) (omega arith);
-    units-same = λ e l. before (3 * e + 2) (omega arith);
-  }
-    where
-      before : (i : ℕ) → i < 3 * z → getD (set (set (set noted (3 * z) component) (3 * z + 1) offset) (3 * z + 2) units) i 0 ≡ getD noted i 0
-      before i l =
-          getD-set-other (set (set noted (3 * z) component) (3 * z + 1) offset) (3 * z + 2) i units 0 (λ e. absurd (omega arith))
-          ∙ getD-set-other (set noted (3 * z) component) (3 * z + 1) i offset 0 (λ e. absurd (omega arith))
-          ∙ getD-set-other noted (3 * z) i component 0 (λ e. absurd (omega arith))
+  unfolding put-note
+  put-alike i l =
+      getD-set-other (set (set noted (3 * z) component) (3 * z + 1) offset) (3 * z + 2) i units 0 (λ e. absurd (omega arith))
+      ∙ getD-set-other (set noted (3 * z) component) (3 * z + 1) i offset 0 (λ e. absurd (omega arith))
+      ∙ getD-set-other noted (3 * z) i component 0 (λ e. absurd (omega arith))
 
   pub put-length : length (put-note noted z component offset units) ≡ length noted
   unfolding put-note

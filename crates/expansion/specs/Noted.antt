@@ -1,8 +1,9 @@
 -- The notes of a design: what stands in them of each component's invocations.
 -- Assumes nothing.
-use Prim.Native.Nat.{ℕ, _+_, _-_, _≤_, _<_, min}
+use Prim.Native.Nat.{ℕ, _+_, _-_, _*_, _≤_, _<_, min}
 use mathlib.Core.Path.{_≡_}
 use mathlib.Core.List.{List}
+use lib.ListN.{getD}
 use Rattle.timeline.specs.Design.{Design, invocation-count, invoked, offset}
 use Rattle.timeline.specs.Flat.{Row, join-below, row-count, unit-count, units-before, rows-from}
 use Rattle.expansion.specs.Notes.{note-component, note-offset, note-units, first-note, join-from}
@@ -32,6 +33,10 @@ module _ (D : Design) (noted : List ℕ) (c : ℕ) where
     pub order : a ≤ z
     pub named : (e : ℕ) → a ≤ e → e < z → Named j e
     pub same-rows : unit-count D c ≤ 4096 → (t u : ℕ) → note-rows a z t u ≡ invocation-rows D c j t u
+
+-- The notes before place z are the same in both.
+abbrev pub Alike : (new old : List ℕ) → (z : ℕ) → Type 0
+Alike new old z = (i : ℕ) → i < 3 * z → getD new i 0 ≡ getD old i 0
 
 -- The components below k have their notes.
 pub record Noted (D : Design) (noted ends : List ℕ) (k : ℕ) : Type 0 where

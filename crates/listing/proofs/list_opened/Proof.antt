@@ -1,0 +1,77 @@
+-- `listing::list_opened` meets its contract. The answer and the bytes left, by the cases of Answered.
+-- Assumes nothing.
+use mathlib.Core.Path.{ap, sym, _∙_}
+use native.Mathlib.Omega.{arith}
+use lib.ListN.{length}
+use Rattle.answers.specs.Answer.{written}
+use Rattle.groups.specs.Groups.{design-of}
+use Rattle.counting.proofs.Grown.{known-none}
+use Rattle.listing.proofs.Answered.{absent, no-room, fits-is, none-left, expand-asked, some-left}
+use borrow.Author.Needs.{needs}
+use Rattle.listing.proofs.list_opened.Statement.{statement}
+use Rattle.listing.proofs.list_opened.Tie as tie
+
+refused-requires : tie.Need-refused-requires
+refused-requires c κs = search needs
+
+returns : tie.Need-returns
+returns c = let a = absent (design-of (c .before .before .before .before .args .file .now) (c .before .before .before .before .args .records)) (c .before .before .before .before .args .asked) (c .before .before .before .before .args .out .now) (let e = c .before .before .before .before .pre .1 in let l = c .before .if1 .taken in omega arith) in (ap written (c .refused .ensures) ∙ a .0, a .1)
+
+count-requires : tie.Need-count-requires
+count-requires c κs = (record { opened = c .before .before .before .before .before .before .before .pre .0; all = c .before .before .before .before .before .before .before .pre .1; there = c .before .before .before .before .if1 .left }, known-none (design-of (c .before .before .before .before .before .before .before .args .file .now) (c .before .before .before .before .before .before .before .args .records)))
+
+mul-n : tie.Need-mul-n
+mul-n c = let e = c .before .before .before .before .before .before .before .before .pre .1 in let f = c .before .before .before .before .before .before .before .before .pre .0 .lawful .few in let l = c .before .before .before .before .before .if1 .left in omega arith
+
+array-read-n : tie.Need-array-read-n
+array-read-n c = let e = c .before .before .before .before .before .before .before .before .pre .1 in let f = c .before .before .before .before .before .before .before .before .pre .0 .lawful .few in let l = c .before .before .before .before .before .if1 .left in omega arith
+
+mul-fits : tie.Need-mul-fits
+mul-fits c = let e = c .before .before .before .before .before .before .before .before .pre .1 in let f = c .before .before .before .before .before .before .before .before .pre .0 .lawful .few in let l = c .before .before .before .before .before .if1 .left in omega arith
+
+array-read-fits : tie.Need-array-read-fits
+array-read-fits c = let e = c .before .before .before .before .before .before .before .before .pre .1 in let f = c .before .before .before .before .before .before .before .before .pre .0 .lawful .few in let l = c .before .before .before .before .before .if1 .left in omega arith
+
+fits-requires : tie.Need-fits-requires
+fits-requires c κs = search needs
+
+returns-2 : tie.Need-returns-2
+returns-2 c = none-left (c .before .before .before .before .before .before .before .before .before .before .before .pre .0 .lawful) (c .before .before .before .before .before .before .before .before .before .before .before .args .asked) (let e = c .before .before .before .before .before .before .before .before .before .before .before .pre .1 in let l = c .before .before .before .before .before .before .before .before .if1 .left in omega arith) (c .before .before .before .count .last .1 .1 .1 .1 .1 .0) (c .before .before .before .count .last .1 .1 .1 .1 .1 .1 .0) (c .before .before .before .count .last .1 .1 .1 .1 .1 .1 .1 .0) (c .before .before .before .count .last .1 .1 .1 .1 .1 .1 .1 .1 .0) (c .before .before .before .count .ensures) (c .before .before .before .before .before .before .before .before .before .before .before .args .out .now) (sym (c .before .before .fits2 .ensures) ∙ c .before .if2 .taken) (c .if3 .taken)
+
+expand-requires : tie.Need-expand-requires
+expand-requires c κs = expand-asked (c .before .before .before .before .before .before .before .before .before .before .before .before .before .before .pre .0 .lawful) (c .before .before .before .before .before .before .before .before .before .before .before .before .before .before .args .asked) (let e = c .before .before .before .before .before .before .before .before .before .before .before .before .before .before .pre .1 in let l = c .before .before .before .before .before .before .before .before .before .before .before .if1 .left in omega arith) (c .before .before .before .before .before .before .count .last .1 .1 .1 .1 .1 .0) (c .before .before .before .before .before .before .count .last .1 .1 .1 .1 .1 .1 .0) (c .before .before .before .before .before .before .count .last .1 .1 .1 .1 .1 .1 .1 .0) (c .before .before .before .before .before .before .count .last .1 .1 .1 .1 .1 .1 .1 .1 .0) (c .before .before .before .before .before .before .count .ensures) (c .before .before .before .before .before .before .before .before .before .before .before .before .before .before .args .out .now) (sym (c .before .before .before .before .before .fits2 .ensures) ∙ c .before .before .before .before .if2 .taken) (c .before .before .before .if3 .left)
+
+index-requires : tie.Need-index-requires
+index-requires c κs = search needs
+
+same-length : tie.Need-same-length
+same-length c = c .before .before .before .expand .kept .1 .1 .1 .1 .1 .1 .0
+
+returns-3 : tie.Need-returns-3
+returns-3 c = rw (c .index .ensures .0) (some-left (c .before .before .before .before .before .before .before .before .before .before .before .before .before .before .before .before .before .before .pre .0 .lawful) (c .before .before .before .before .before .before .before .before .before .before .before .before .before .before .before .before .before .before .args .asked) (let e = c .before .before .before .before .before .before .before .before .before .before .before .before .before .before .before .before .before .before .pre .1 in let l = c .before .before .before .before .before .before .before .before .before .before .before .before .before .before .before .if1 .left in omega arith) (c .before .before .before .before .before .before .before .before .before .before .count .last .1 .1 .1 .1 .1 .0) (c .before .before .before .before .before .before .before .before .before .before .count .last .1 .1 .1 .1 .1 .1 .0) (c .before .before .before .before .before .before .before .before .before .before .count .last .1 .1 .1 .1 .1 .1 .1 .0) (c .before .before .before .before .before .before .before .before .before .before .count .last .1 .1 .1 .1 .1 .1 .1 .1 .0) (c .before .before .before .before .before .before .before .before .before .before .count .ensures) (c .before .before .before .before .before .before .before .before .before .before .before .before .before .before .before .before .before .before .args .out .now) (sym (c .before .before .before .before .before .before .before .before .before .fits2 .ensures) ∙ c .before .before .before .before .before .before .before .before .if2 .taken) (c .before .before .before .before .before .before .before .if3 .left) (c .before .before .before .expand .result) _ (c .before .before .before .expand .ensures))
+
+refused-requires-2 : tie.Need-refused-requires-2
+refused-requires-2 c κs = search needs
+
+returns-4 : tie.Need-returns-4
+returns-4 c = let a = no-room (design-of (c .before .before .before .before .before .before .before .before .before .before .before .args .file .now) (c .before .before .before .before .before .before .before .before .before .before .before .args .records)) (c .before .before .before .before .before .before .before .before .before .before .before .args .asked) (c .before .before .before .before .before .before .before .before .before .before .before .args .out .now) (let e = c .before .before .before .before .before .before .before .before .before .before .before .pre .1 in let l = c .before .before .before .before .before .before .before .before .if1 .left in omega arith) (sym (fits-is (c .before .before .before .before .before .before .before .before .before .before .before .pre .0 .lawful) (c .before .before .before .before .before .before .before .before .before .before .before .args .asked) (let e = c .before .before .before .before .before .before .before .before .before .before .before .pre .1 in let l = c .before .before .before .before .before .before .before .before .if1 .left in omega arith) (c .before .before .before .count .last .1 .1 .1 .1 .1 .0) (c .before .before .before .count .last .1 .1 .1 .1 .1 .1 .0) (c .before .before .before .count .last .1 .1 .1 .1 .1 .1 .1 .0) (c .before .before .before .count .last .1 .1 .1 .1 .1 .1 .1 .1 .0) (c .before .before .before .count .ensures) (length (c .before .before .before .before .before .before .before .before .before .before .before .args .out .now))) ∙ sym (c .before .before .fits2 .ensures) ∙ c .before .if2 .left) in (ap written (c .refused2 .ensures) ∙ a .0, a .1)
+
+pub list-opened-spec : {M : Type 1} → statement M
+list-opened-spec =
+    tie.close
+    (tie.spec
+    refused-requires
+    returns
+    count-requires
+    mul-n
+    array-read-n
+    mul-fits
+    array-read-fits
+    fits-requires
+    returns-2
+    expand-requires
+    index-requires
+    same-length
+    returns-3
+    refused-requires-2
+    returns-4)

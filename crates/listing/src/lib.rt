@@ -1,0 +1,86 @@
+// The flat listing of one component of a file: when each of its leaf units starts.
+use answers::Fault;
+use answers::Refusal;
+use answers::Verdict;
+use answers::Written;
+ghost use mathlib.Core.Path.{_≡_};
+ghost use Prim.Native.Nat.{_+_, _≤_, _<_};
+ghost use lib.ListN.{length, replicate};
+ghost use Rattle.answers.specs.Answer.{written};
+ghost use Rattle.groups.specs.Groups.{design-of, Opened};
+ghost use Rattle.listing.specs.Answer.{fits, flat-answer, list-answer, flat-left, list-left};
+
+fn index(x: u16) -> usize
+    ensures { λ r. ⌜ (r ≡ x) × (r < 65536) ⌝ }
+{
+    x as usize
+}
+
+fn refused(fault: Fault, position: usize) -> Written
+    ensures { λ r. ⌜ r ≡ Written.Refused (record { fault = fault; position = position }) ⌝ }
+{
+    Written::Refused(Refusal { fault, position })
+}
+
+// Whether so many rows and units are listed, and the rows find room.
+fn fits(rows: u16, units: u16, room: usize) -> bool
+    ensures { λ r. ⌜ r ≡ fits rows units room ⌝ }
+{
+    (rows <= 4096) & (units <= 4096) & (8 * index(rows) <= room)
+}
+
+// The listing of a judged file's component, the table having the row of each component.
+fn list_opened(
+    file: &[u8],
+    table: &[u16; 320],
+    components: usize,
+    records: usize,
+    asked: usize,
+    out: &mut [u8],
+) -> Written
+    requires { ⌜ Opened (now file) (now table) records × (components ≡ length (design-of (now file) records)) ⌝ }
+    ensures { λ r. ⌜ (written r ≡ flat-answer (design-of (now (file .entry)) records) asked (length (now (out .entry)))) × (now (out .exit) ≡ flat-left (design-of (now (file .entry)) records) asked (now (out .entry))) ⌝ }
+{
+    if components <= asked {
+        return refused(Fault::Absent, asked);
+    }
+    let mut rows = [0u16; 64];
+    let mut units = [0u16; 64];
+    let mut noted = [0u16; 11904];
+    let mut ends = [0u16; 65];
+    counting::count(
+        file,
+        table,
+        components,
+        records,
+        asked,
+        &mut rows,
+        &mut units,
+        &mut noted,
+        &mut ends,
+    );
+    let n = rows[asked];
+    if fits(n, units[asked], out.len()) {
+        if n == 0 {
+            return Written::Done(0);
+        }
+        expansion::expand(&noted, &ends, asked, 0, 0, 0, out);
+        return Written::Done(index(n));
+    }
+    refused(Fault::Room, 0)
+}
+
+// Judges a file, then lists one of its components: how many rows of 8 bytes there are, or the first refusal.
+// The table has five numbers for each of 64 components, and is zero after every call.
+pub fn list(file: &[u8], table: &mut [u16], asked: usize, out: &mut [u8]) -> Written
+    ensures { λ r. ⌜ (written r ≡ list-answer (now (file .entry)) (length (now (table .entry))) asked (length (now (out .entry)))) × (now (out .exit) ≡ list-left (now (file .entry)) (length (now (table .entry))) asked (now (out .entry))) × (now (table .exit) ≡ replicate (length (now (table .entry))) 0) ⌝ }
+{
+    let mut rows = [0u16; 320];
+    match verdict::open(file, table, &mut rows) {
+        Verdict::Accepted {
+            components,
+            records,
+        } => list_opened(file, &rows, components, records, asked, out),
+        Verdict::Refused(r) => Written::Refused(r),
+    }
+}
