@@ -54,6 +54,21 @@ wrote 'a refused design' 'refused 11 at 12'
 expect 1 'nothing judged' ./dansevik judge
 wrote 'nothing judged' 'refused 1 at 0'
 
+expect 0 'lower' ./dansevik lower examples/squaring.design
+same 'lower' "$room/out" crates/lower/stdout
+expect 1 'a refused design, lowered' ./dansevik lower crates/cases/data/b
+wrote 'a refused design, lowered' 'refused 11 at 12'
+expect 0 'list' ./dansevik list examples/squaring.design
+wrote 'list' "$(printf 'start 0 0 0\nstart 2 0 0\nend')"
+expect 0 'list of a component' ./dansevik list --component 0 examples/squaring.design
+wrote 'list of a component' "$(printf 'start 0 0 0\nend')"
+expect 1 'list of no component' ./dansevik list --component 18446744073709551615 examples/squaring.design
+wrote 'list of no component' 'refused 14 at 18446744073709551615'
+expect 2 'list of no number' ./dansevik list --component one examples/squaring.design
+expect 2 'list of too great a number' ./dansevik list --component 18446744073709551616 examples/squaring.design
+says 'list of too great a number' 'usage: list [COMPONENT]'
+expect 2 'list of nothing' ./dansevik list --component
+
 expect 1 'nothing packed' ./dansevik pack
 says 'nothing packed' 'refused 1 at 0'
 head -c 65552 /dev/zero >"$room/long"

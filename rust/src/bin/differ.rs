@@ -22,6 +22,7 @@ type Expected = fn(&[u8]) -> String;
 struct Asked {
     files: u64,
     seed: u64,
+    verb: String,
     expected: Expected,
     command: Vec<String>,
 }
@@ -44,7 +45,11 @@ fn asked() -> Option<Asked> {
             "-s" => seed = words.next()?.parse().ok()?,
             verb => {
                 let (expected, command) = (expected(verb)?, words.collect::<Vec<String>>());
-                return if command.is_empty() { None } else { Some(Asked { files, seed, expected, command }) };
+                return if command.is_empty() {
+                    None
+                } else {
+                    Some(Asked { files, seed, verb: verb.to_string(), expected, command })
+                };
             }
         }
     }
@@ -106,6 +111,6 @@ fn main() -> io::Result<()> {
             println!("{name}: expected {expected:?}, printed {found:?}, file {}", kept.display());
         }
     }
-    println!("{compared} files compared, {different} different");
+    println!("{verb}: {compared} files compared, {different} different", verb = asked.verb);
     exit(i32::from(different > 0));
 }

@@ -1,0 +1,51 @@
+-- `printed::components` is safe and ends.
+-- Assumes nothing.
+use Prim.Native.Nat.{_-_, _≤_}
+use borrow.Author.Needs.{needs}
+use Rattle.printed.proofs.components.Statement.{statement}
+use Rattle.printed.proofs.components.Tie as tie
+
+abbrev Inv-loop : tie.InvT-loop
+Inv-loop fd file count c₀ t5 c = c ≤ count
+
+abbrev μ-loop : tie.MeasureT-loop
+μ-loop fd file count c₀ t5 c = count - c
+
+loop-holds : tie.Need-loop-holds Inv-loop μ-loop
+loop-holds c = search needs
+
+component-requires : tie.Need-component-requires Inv-loop μ-loop
+component-requires c κs = search needs
+
+add-c : tie.Need-add-c Inv-loop μ-loop
+add-c c = search needs
+
+loop-less : tie.Need-loop-less Inv-loop μ-loop
+loop-less c = search needs
+
+loop-again : tie.Need-loop-again Inv-loop μ-loop
+loop-again c = search needs
+
+slice-aggregate-write-all : tie.Need-slice-aggregate-write-all Inv-loop μ-loop
+slice-aggregate-write-all c = search needs
+
+write-all-requires : tie.Need-write-all-requires Inv-loop μ-loop
+write-all-requires c κs = search needs
+
+returns : tie.Need-returns Inv-loop μ-loop
+returns c = search needs
+
+pub components-spec : {M : Type 1} → statement M
+components-spec =
+    tie.close
+    (tie.spec
+    Inv-loop
+    μ-loop
+    loop-holds
+    component-requires
+    add-c
+    loop-less
+    loop-again
+    slice-aggregate-write-all
+    write-all-requires
+    returns)
