@@ -22,7 +22,7 @@ use Rattle.lowering.specs.declared.Built.{Built}
 use Rattle.lowering.specs.Stands.{design, called, rows-called, all-rows, Stands, Begins, Use-of}
 use Rattle.lowering.proofs.Places.{from-first, number-place, row-total}
 use Rattle.lowering.proofs.Lists.{list-same}
-use Rattle.lowering.proofs.Found.{use-rows}
+use Rattle.lowering.proofs.Called.{use-rows}
 
 module _ {file rows : List ℕ} {b : Built} (h : Stands file rows b) where
   abbrev E : Design

@@ -33,3 +33,10 @@ how-many (refused n p) = refused n p
 abbrev pub left : Answer (List Row) → (old : List ℕ) → List ℕ
 left (accepted l) old = rows-bytes l ++ drop (16 * length l) old
 left (refused n p) old = old
+
+-- So many numbers lent as the table, so many bytes of room; and what those bytes, `old`, then hold.
+abbrev pub lower-answer : (file : List ℕ) → (numbers asked room : ℕ) → Answer ℕ
+lower-answer file numbers asked room = how-many (lowered file numbers asked room)
+
+abbrev pub lower-left : (file : List ℕ) → (numbers asked : ℕ) → (old : List ℕ) → List ℕ
+lower-left file numbers asked old = left (lowered file numbers asked (length old)) old

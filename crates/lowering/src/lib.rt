@@ -15,7 +15,7 @@ ghost use Rattle.timetable.specs.States.{states};
 ghost use Rattle.timetable.specs.Bytes.{rows-bytes};
 ghost use Rattle.answers.specs.Answer.{written};
 ghost use Rattle.groups.specs.Groups.{design-of, Opened};
-ghost use Rattle.lowering.specs.Answer.{component-rows, lowered, how-many, left};
+ghost use Rattle.lowering.specs.Answer.{component-rows, how-many, left, lower-answer, lower-left};
 ghost use Rattle.lowering.specs.Stands.{design, called, rows-called, all-rows, Stands, Begins, Use-of, end-in};
 
 // A built component: how many records the file has, the component's number and what its row in the table says, and the record at which each of its groups begins.
@@ -126,6 +126,7 @@ fn end_of(rows: &[u16], components: usize, records: usize, c: usize) -> usize
     records
 }
 
+// Component c, which is built, and where the groups of its records begin.
 fn built_at(file: &[u8], rows: &[u16], components: usize, records: usize, c: usize) -> Built
     requires { ⌜ Opened (now file) (now rows) records × (components ≡ length (design-of (now file) records)) × (c < components) × (class (design-of (now file) records) c ≡ built) ⌝ }
     ensures { λ r. ⌜ Stands (now (file .entry)) (now (rows .entry)) r × (r .records ≡ records) × (r .number ≡ c) ⌝ }
@@ -191,7 +192,7 @@ fn lower_opened(
 
 // The control rows of one component, sixteen bytes each: how many, or the first refusal. The table is zero after every call.
 pub fn lower(file: &[u8], table: &mut [u16], asked: usize, out: &mut [u8]) -> Written
-    ensures { λ r. ⌜ (written r ≡ how-many (lowered (now (file .entry)) (length (now (table .entry))) asked (length (now (out .entry))))) × (now (out .exit) ≡ left (lowered (now (file .entry)) (length (now (table .entry))) asked (length (now (out .entry)))) (now (out .entry))) × (now (table .exit) ≡ replicate (length (now (table .entry))) 0) ⌝ }
+    ensures { λ r. ⌜ (written r ≡ lower-answer (now (file .entry)) (length (now (table .entry))) asked (length (now (out .entry)))) × (now (out .exit) ≡ lower-left (now (file .entry)) (length (now (table .entry))) asked (now (out .entry))) × (now (table .exit) ≡ replicate (length (now (table .entry))) 0) ⌝ }
 {
     let mut rows = [0u16; 320];
     match verdict::open(file, table, &mut rows) {

@@ -41,6 +41,7 @@ output-rows n r = list-below n (λ o. output-row o (r + o))
 
 -- What keeps the numbers of these rows small.
 pub record In-range (file : List ℕ) (u : Use) : Type 0 where
+  pub number : u .number < 64
   pub offset : u .offset < 1024
   pub few : u .inputs ≤ 16
   pub first : u .first < 3968

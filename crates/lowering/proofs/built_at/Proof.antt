@@ -1,14 +1,13 @@
 -- `lowering::built_at` meets its contract. The row gives the counts and the first record; the instances end where no further one stands, and the connections are the last records.
 -- Assumes nothing.
-use Prim.Native.Nat.{ℕ, _+_, _-_}
-use mathlib.Core.Path.{_≡_, refl, ap, _∙_}
+use Prim.Native.Nat.{ℕ, _-_}
+use mathlib.Core.Path.{refl, ap, _∙_}
 use native.Mathlib.Omega.{arith}
 use borrow.Author.Needs.{needs}
 use Rattle.reading.specs.Reader.{Row}
-use Rattle.entry.specs.Numbers.{instance-number}
-use Rattle.groups.specs.Groups.{design-of, past-instances}
+use Rattle.groups.specs.Groups.{past-instances}
 use Rattle.groups.proofs.Laws.{row-is, past-is}
-use Rattle.lowering.proofs.Found.{instances-from, end-is, connections-end, instances-below}
+use Rattle.lowering.proofs.Found.{instances-from, connections-to, instances-below}
 use Rattle.lowering.proofs.built_at.Statement.{statement}
 use Rattle.lowering.proofs.built_at.Tie as tie
 
@@ -36,11 +35,7 @@ add-instances-3 c = search needs
 past-instances-requires : tie.Need-past-instances-requires
 past-instances-requires c κs = let h = c .before .before .before .before .before .before .pre .0 in
     let l = rw (c .before .before .before .before .before .before .pre .1) at (c .before .before .before .before .before .before .pre .2) in
-    let r = c .before .before .before .row-of .ensures ∙ row-is h (c .before .before .before .before .before .before .args .c) l in
-    let i = instances-from h (c .before .before .before .before .before .before .args .c) l in
-    let f = c .before .before .size .ensures .0 ∙ ap (λ (w : Row). w .first) r in
-    let n = c .before .size2 .ensures .0 ∙ ap (λ (w : Row). w .inputs) r in
-    let o = c .size3 .ensures .0 ∙ ap (λ (w : Row). w .outputs) r in
+    let s = instances-from h (c .before .before .before .before .before .before .args .c) l _ (c .before .before .size .result) (c .before .size2 .result) (c .size3 .result) (c .before .before .before .row-of .ensures) (c .before .before .size .ensures .0) (c .before .size2 .ensures .0) (c .size3 .ensures .0) in
     let k = instances-below h (c .before .before .before .before .before .before .args .c) l (c .before .before .before .before .before .before .pre .3) in
     (omega arith, h .few, h .held)
 
@@ -51,23 +46,16 @@ size-requires-4 : tie.Need-size-requires-4
 size-requires-4 c κs = search needs
 
 sub-t14 : tie.Need-sub-t14
-sub-t14 c = let h = c .before .before .before .before .before .before .before .before .before .pre .0 in
-    let l = rw (c .before .before .before .before .before .before .before .before .before .pre .1) at (c .before .before .before .before .before .before .before .before .before .pre .2) in
-    let o = c .size4 .ensures .0 ∙ ap (λ (w : Row). w .outputs) (c .before .before .before .before .before .before .row-of .ensures ∙ row-is h (c .before .before .before .before .before .before .before .before .before .args .c) l) in
-    let e = c .before .end-of .ensures ∙ end-is h (c .before .before .before .before .before .before .before .before .before .args .c) l (c .before .before .before .before .before .before .before .before .before .args .components) (c .before .before .before .before .before .before .before .before .before .pre .1) ∙ connections-end h (c .before .before .before .before .before .before .before .before .before .args .c) l (c .before .before .before .before .before .before .before .before .before .pre .3) in
+sub-t14 c = let l = rw (c .before .before .before .before .before .before .before .before .before .pre .1) at (c .before .before .before .before .before .before .before .before .before .pre .2) in
+    let e = connections-to (c .before .before .before .before .before .before .before .before .before .pre .0) (c .before .before .before .before .before .before .before .before .before .args .c) l (c .before .before .before .before .before .before .before .before .before .pre .3) _ (c .before .before .before .before .before .before .before .before .before .args .components) (c .size4 .result) (c .before .end-of .result) (c .before .before .before .before .before .before .before .before .before .pre .1) (c .before .before .before .before .before .before .row-of .ensures) (c .size4 .ensures .0) (c .before .end-of .ensures) in
     omega arith
 
 returns : tie.Need-returns
 returns c = let h = c .before .before .before .before .before .before .before .before .before .pre .0 in
     let l = rw (c .before .before .before .before .before .before .before .before .before .pre .1) at (c .before .before .before .before .before .before .before .before .before .pre .2) in
     let r = c .before .before .before .before .before .before .row-of .ensures ∙ row-is h (c .before .before .before .before .before .before .before .before .before .args .c) l in
-    let i = instances-from h (c .before .before .before .before .before .before .before .before .before .args .c) l in
-    let f = c .before .before .before .before .before .size .ensures .0 ∙ ap (λ (w : Row). w .first) r in
-    let n = c .before .before .before .before .size2 .ensures .0 ∙ ap (λ (w : Row). w .inputs) r in
-    let m = c .before .before .before .size3 .ensures .0 ∙ ap (λ (w : Row). w .outputs) r in
-    let o = c .size4 .ensures .0 ∙ ap (λ (w : Row). w .outputs) r in
-    let e = c .before .end-of .ensures ∙ end-is h (c .before .before .before .before .before .before .before .before .before .args .c) l (c .before .before .before .before .before .before .before .before .before .args .components) (c .before .before .before .before .before .before .before .before .before .pre .1) ∙ connections-end h (c .before .before .before .before .before .before .before .before .before .args .c) l (c .before .before .before .before .before .before .before .before .before .pre .3) in
-    let s : c .before .before .before .before .before .size .result + 1 + c .before .before .before .before .size2 .result + c .before .before .before .size3 .result ≡ instance-number (design-of (c .before .before .before .before .before .before .before .before .before .args .file .now) (c .before .before .before .before .before .before .before .before .before .args .records)) (c .before .before .before .before .before .before .before .before .before .args .c) 0 = omega arith in (
+    let s = instances-from h (c .before .before .before .before .before .before .before .before .before .args .c) l _ (c .before .before .before .before .before .size .result) (c .before .before .before .before .size2 .result) (c .before .before .before .size3 .result) (c .before .before .before .before .before .before .row-of .ensures) (c .before .before .before .before .before .size .ensures .0) (c .before .before .before .before .size2 .ensures .0) (c .before .before .before .size3 .ensures .0) in
+    let e = connections-to h (c .before .before .before .before .before .before .before .before .before .args .c) l (c .before .before .before .before .before .before .before .before .before .pre .3) _ (c .before .before .before .before .before .before .before .before .before .args .components) (c .size4 .result) (c .before .end-of .result) (c .before .before .before .before .before .before .before .before .before .pre .1) (c .before .before .before .before .before .before .row-of .ensures) (c .size4 .ensures .0) (c .before .end-of .ensures) in (
       record {
         opened = h;
         there = l;

@@ -9,7 +9,7 @@ use mathlib.Core.List.{_++_}
 use Rattle.timetable.specs.Bytes.{rows-bytes}
 use Rattle.rows.proofs.Laws.{part-long, rows-end, rows-long}
 use Rattle.lowering.specs.Stands.{Begins, rows-called}
-use Rattle.lowering.proofs.Found.{last-below, first-call, calls-done, few-calls, in-range, next-call, call-within}
+use Rattle.lowering.proofs.Called.{last-below, first-call, calls-done, few-calls, in-range, next-call, call-within}
 use Rattle.lowering.proofs.Written.{calls-from, calls-long, call-more}
 use Rattle.lowering.proofs.put_invocations.Statement.{statement}
 use Rattle.lowering.proofs.put_invocations.Tie as tie

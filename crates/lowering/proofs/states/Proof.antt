@@ -7,7 +7,7 @@ use Rattle.rows.specs.Rows.{lasting}
 use Rattle.timeline.specs.Design.{offset}
 use Rattle.lowering.specs.Stands.{design, Begins}
 use Rattle.lowering.proofs.Reached.{Reached, reached-own, reached-next, reached-last}
-use Rattle.lowering.proofs.Found.{first-below, last-below, few-ports, own-lasts, first-call, calls-done, few-calls, called-there, in-range, few-outputs, use-lasts, use-lasting, next-call, call-within}
+use Rattle.lowering.proofs.Called.{first-below, last-below, few-ports, own-lasts, first-call, calls-done, few-calls, called-there, in-range, few-outputs, use-lasts, use-lasting, next-call, call-within}
 use Rattle.lowering.proofs.states.Statement.{statement}
 use Rattle.lowering.proofs.states.Tie as tie
 

@@ -6,7 +6,7 @@ use borrow.Author.Needs.{needs}
 use Rattle.reading.specs.Reader.{Row}
 use Rattle.groups.proofs.Laws.{row-is}
 use Rattle.reader.specs.Rows.{row-in}
-use Rattle.lowering.proofs.Found.{call-lies, call-says, instance-lies, component-says, invoked-there, invoked-few}
+use Rattle.lowering.proofs.Called.{call-lies, call-says, instance-lies, component-says, invoked-there, invoked-few}
 use Rattle.lowering.proofs.use_at.Statement.{statement}
 use Rattle.lowering.proofs.use_at.Tie as tie
 
