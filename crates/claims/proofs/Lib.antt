@@ -3,5 +3,7 @@ pub mod Sizes
 pub mod Coded
 pub mod Accepted
 pub mod Then
+pub mod After
 pub mod Lowering
+pub mod Listing
 pub mod Main
