@@ -8,10 +8,9 @@
 
 use dansevik::cases::all;
 use dansevik::designs::{damaged, damaged_blocks, drawn, Chance};
-use dansevik::printed;
-use std::io::{self, Write};
-use std::process::{exit, Command, Stdio};
-use std::{env, fs};
+use dansevik::{command, printed};
+use std::process::exit;
+use std::{env, fs, io};
 
 /// Most differences that are reported.
 const SHOWN: usize = 10;
@@ -56,17 +55,6 @@ fn asked() -> Option<Asked> {
     None
 }
 
-/// What the command prints for a file.
-fn printed(command: &[String], file: &[u8]) -> io::Result<String> {
-    let mut child = Command::new(&command[0]).args(&command[1..]).stdin(Stdio::piped()).stdout(Stdio::piped()).spawn()?;
-    if let Some(mut stdin) = child.stdin.take() {
-        // a program may refuse before it has read everything
-        let _ = stdin.write_all(file);
-    }
-    let output = child.wait_with_output()?;
-    Ok(String::from_utf8_lossy(&output.stdout).into_owned())
-}
-
 /// A file by chance: lawful, or damaged in a record or two, or in its blocks.
 fn by_chance(chance: &mut Chance) -> Vec<u8> {
     let most = if chance.one_in(8) { 64 } else { 8 };
@@ -99,7 +87,7 @@ fn main() -> io::Result<()> {
     let mut different = 0;
     for (name, file) in cases.chain(drawn) {
         let expected = (asked.expected)(&file);
-        let found = printed(&asked.command, &file)?;
+        let found = command::printed(&asked.command, &file)?;
         compared += 1;
         if found == expected {
             continue;
