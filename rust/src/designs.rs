@@ -6,6 +6,7 @@ mod draft;
 mod drawn;
 mod hostile;
 mod list;
+mod looped;
 mod rich;
 mod squaring;
 
@@ -15,5 +16,6 @@ pub use draft::{Draft, Drawing};
 pub use drawn::drawn;
 pub use hostile::{deep, doubling, empty_levels, hidden, many_rows, many_units, scattered, unused_instances};
 pub use list::{constant, output_of, own, seal, List};
+pub use looped::looped;
 pub use rich::rich;
 pub use squaring::{squaring, variants};
