@@ -27,7 +27,7 @@ lasting-requires c κs = let a = few-ports (c .before .before .before .pre) in
     omega (arith, a .0, a .1)
 
 loop-holds : tie.Need-loop-holds Inv-loop μ-loop
-loop-holds c = (first-call (c .before .before .before .before .pre), reached-own _ _ _ (rw (← c .lasting .ensures) at (own-lasts (c .before .before .before .before .pre))))
+loop-holds c = (first-call (c .before .before .before .before .pre), reached-own _ _ _ (rw (c .lasting .ensures) (own-lasts (c .before .before .before .before .pre))))
 
 use-at-requires : tie.Need-use-at-requires Inv-loop μ-loop
 use-at-requires c κs = (c .before .before .before .before .before .before .before .pre, c .before .before .loop .inv .0, c .if1 .taken)
@@ -43,10 +43,10 @@ lasting-requires-2 c κs = let r = in-range (c .before .before .before .before .
     omega (arith, r .few, r .first)
 
 add-greater : tie.Need-add-greater Inv-loop μ-loop
-add-greater c = let a = (in-range (c .before .before .before .before .before .before .before .before .before .before .before .pre) (c .before .before .before .before .before .before .loop .inv .0) (c .before .before .before .before .if1 .taken) (c .before .before .before .use-at .ensures)) .offset in
+add-greater c = let r = in-range (c .before .before .before .before .before .before .before .before .before .before .before .pre) (c .before .before .before .before .before .before .loop .inv .0) (c .before .before .before .before .if1 .taken) (c .before .before .before .use-at .ensures) in
     let b = use-lasting (c .before .before .before .before .before .before .before .before .before .before .before .pre) (c .before .before .before .before .before .before .loop .inv .0) (c .before .before .before .before .if1 .taken) (c .before .before .before .use-at .ensures) in
     let e = c .before .lasting2 .ensures in
-    omega arith
+    omega (arith, r .offset, r .few)
 
 greater-requires : tie.Need-greater-requires Inv-loop μ-loop
 greater-requires c κs = search needs
