@@ -2,20 +2,24 @@
 -- Assumes nothing.
 use Prim.Native.Nat.{ℕ, _+_, _*_, _≤_, _<_}
 use mathlib.Core.Path.{_≡_, ap, sym, _∙_}
-use mathlib.Core.List.{List, [], _++_}
+use mathlib.Core.List.{List, [], _++_, append-nil}
 use native.Mathlib.Omega.{arith}
-use lib.ListN.{length, length-append}
+use lib.ListN.{length, take, drop, length-append, length-take, drop-of-length-le}
+use lib.Seq.{take-at, take-length}
 use Rattle.timeline.specs.Flat.{Row}
-use Rattle.expansion.specs.Bytes.{rows-bytes}
+use Rattle.expansion.specs.Bytes.{rows-bytes, pasted}
 use Rattle.expansion.specs.Notes.{first-note, listed, listed-from}
 use Rattle.expansion.specs.Asked.{Says, Sound, Asked, Asked-from, Wrote}
-use Rattle.expansion.proofs.Pasted.{pasted-none, pasted-more, length-rows-bytes, rows-bytes-join}
+use Rattle.expansion.proofs.Pasted.{pasted-none, pasted-length, pasted-more, length-rows-bytes, rows-bytes-join}
 use Rattle.expansion.proofs.Listed.{listed-leaf, listed-notes, from-more}
 
 -- ---- rows written one after the other
 pub wrote-none : (old : List ℕ) (at : ℕ) → Wrote [] at at old old
 unfolding rows-bytes
 wrote-none old at = record { behind = omega arith; bytes = sym (pasted-none old at) }
+
+pub wrote-long : (a : List Row) (at r : ℕ) (old new : List ℕ) → at + 8 * length a ≤ length old → Wrote a at r old new → length new ≡ length old
+wrote-long a at r old new room w = let l = length-rows-bytes a in ap length (w .bytes) ∙ pasted-length old at (rows-bytes a) (omega arith)
 
 pub wrote-both : (a b : List Row) (at r₁ r₂ : ℕ) (old mid new : List ℕ) → at + 8 * length a ≤ length old
     → Wrote a at r₁ old mid → Wrote b r₁ r₂ mid new → Wrote (a ++ b) at r₂ old new
@@ -28,23 +32,23 @@ wrote-both a b at r₁ r₂ old mid new room v w =
     }
 
 -- ---- a component
-module _ (noted ends : List ℕ) (c t u at size : ℕ) (a : Asked noted ends c t u at size) where
-  pub leaf-room : first-note ends (c + 1) ≤ first-note ends c → at + 8 ≤ size
-  leaf-room h = let n : length (listed noted ends c t u) ≡ 1 = ap length (listed-leaf noted ends c t u h) in let r = a .room in omega arith
+module _ {noted ends : List ℕ} {c t u at : ℕ} {old : List ℕ} (a : Asked noted ends c t u at old) where
+  pub leaf-asked : first-note ends (c + 1) ≤ first-note ends c → (at + 8 ≤ 32768) × (length old ≡ 32768)
+  leaf-asked h = let n : length (listed noted ends c t u) ≡ 1 = ap length (listed-leaf noted ends c t u h) in let r = a .room in (omega arith, a .long)
 
-  pub notes-asked : first-note ends c < first-note ends (c + 1) → Asked-from noted ends c (first-note ends c) t u at size
-  notes-asked h = record { expands = a .expands; from = omega arith; upto = omega arith; room = rw (listed-notes noted ends c t u h) at (a .room) }
+  pub notes-asked : first-note ends c < first-note ends (c + 1) → Asked-from noted ends c (first-note ends c) t u at old
+  notes-asked h = record { expands = a .expands; from = omega arith; upto = omega arith; room = rw (listed-notes noted ends c t u h) at (a .room); long = a .long }
 
 -- ---- its notes from e on
-module _ (noted ends : List ℕ) (c e t u at size : ℕ) (a : Asked-from noted ends c e t u at size) where
-  pub note-within : e < first-note ends (c + 1) → e < 3968
-  note-within h = let w = a .expands .sound .within c (omega arith) in omega arith
+module _ {noted ends : List ℕ} {c e t u at : ℕ} {old : List ℕ} (a : Asked-from noted ends c e t u at old) (h : e < first-note ends (c + 1)) where
+  pub note-within : e < 3968
+  note-within = let w = a .expands .sound .within c (omega arith) in omega arith
 
-  module _ (h : e < first-note ends (c + 1)) (n o b : ℕ) (s : Says noted e n o b) where
+  module _ {n o b : ℕ} (s : Says noted e n o b) where
     pub lower : n < c
     lower = rw (s .component-is) (a .expands .sound .lower c (omega arith) e (a .from) h)
 
-    abbrev pub first : List Row
+    abbrev first : List Row
     first = listed noted ends n (t + o) (u + b)
 
     cut : listed-from noted ends c e t u ≡ first ++ listed-from noted ends c (e + 1) t u
@@ -63,7 +67,7 @@ module _ (noted ends : List ℕ) (c e t u at size : ℕ) (a : Asked-from noted e
           lower = λ d m. s .lower d (omega arith);
         }
 
-    pub sub-asked : Asked noted ends n (t + o) (u + b) at size
+    pub sub-asked : Asked noted ends n (t + o) (u + b) at old
     sub-asked =
         let l = lower in
         let k = cut-length in
@@ -72,18 +76,31 @@ module _ (noted ends : List ℕ) (c e t u at size : ℕ) (a : Asked-from noted e
         record {
           expands = record { sound = sound-below; few = omega arith; cycles = omega arith; units = omega arith };
           room = omega arith;
+          long = a .long;
         }
 
-    pub next-asked : Asked-from noted ends c (e + 1) t u (at + 8 * length first) size
-    next-asked =
-        let k = cut-length in
-        let r = a .room in
-        let f = a .from in
-        record { expands = a .expands; from = omega arith; upto = omega arith; room = omega arith }
+    module _ {r₁ : ℕ} {mid : List ℕ} (v : Wrote (listed noted ends n (t + o) (u + b)) at r₁ old mid) where
+      fitted : at + 8 * length first ≤ length old
+      fitted = let k = cut-length in let r = a .room in let l = a .long in omega arith
 
-    pub notes-wrote : (r₁ r₂ : ℕ) (old mid new : List ℕ) → size ≡ length old → Wrote first at r₁ old mid
-        → Wrote (listed-from noted ends c (e + 1) t u) r₁ r₂ mid new → Wrote (listed-from noted ends c e t u) at r₂ old new
-    notes-wrote r₁ r₂ old mid new z v w =
-        let k = cut-length in
-        let r = a .room in
-        rw cut (wrote-both first (listed-from noted ends c (e + 1) t u) at r₁ r₂ old mid new (omega arith) v w)
+      pub next-asked : Asked-from noted ends c (e + 1) t u r₁ mid
+      next-asked =
+          let k = cut-length in
+          let r = a .room in
+          let f = a .from in
+          let p = v .behind in
+          record { expands = a .expands; from = omega arith; upto = omega arith; room = omega arith; long = wrote-long first at r₁ old mid fitted v ∙ a .long }
+
+      pub notes-wrote : {r₂ : ℕ} {new : List ℕ} → Wrote (listed-from noted ends c (e + 1) t u) r₁ r₂ mid new → Wrote (listed-from noted ends c e t u) at r₂ old new
+      notes-wrote {r₂} {new} w = rw cut (wrote-both first (listed-from noted ends c (e + 1) t u) at r₁ r₂ old mid new fitted v w)
+
+-- ---- the rows copied to the front of lent bytes
+module _ (rows : List Row) (r : ℕ) (array mid old : List ℕ) (size : ℕ) (w : Wrote rows 0 r array mid) (is : size ≡ 8 * length rows) (room : size ≤ length old) where
+  front : take size mid ≡ rows-bytes rows
+  unfolding pasted
+  front = rw (w .bytes) (take-at (rows-bytes rows) (drop (0 + length (rows-bytes rows)) array) size (length-rows-bytes rows ∙ sym is))
+
+  pub copied : (n : ℕ) → n ≡ size → take (length (take n mid)) (take n mid) ++ drop (length (take n mid)) (take n old) ++ drop n old ≡ rows-bytes rows ++ drop size old
+  copied n e =
+      let l : length (rows-bytes rows) ≡ size = length-rows-bytes rows ∙ sym is in
+      rw (e, front, take-length (rows-bytes rows), l, drop-of-length-le (take size old) {i = size} (simp length-take (omega arith)), append-nil (rows-bytes rows))

@@ -29,17 +29,19 @@ pub record Expands (noted ends : List ℕ) (c t u : ℕ) : Type 0 where
   pub cycles : t + 65536 * c < 2 ^ 32
   pub units : u + 65536 * c < 2 ^ 32
 
--- And there is room for its rows from place `at` on.
-pub record Asked (noted ends : List ℕ) (c t u at size : ℕ) : Type 0 where
+-- And there is room for its rows from place `at` on, among the bytes of 4,096 rows.
+pub record Asked (noted ends : List ℕ) (c t u at : ℕ) (out : List ℕ) : Type 0 where
   pub expands : Expands noted ends c t u
-  pub room : at + 8 * length (listed noted ends c t u) ≤ size
+  pub room : at + 8 * length (listed noted ends c t u) ≤ 32768
+  pub long : length out ≡ 32768
 
 -- The same of its notes from e on.
-pub record Asked-from (noted ends : List ℕ) (c e t u at size : ℕ) : Type 0 where
+pub record Asked-from (noted ends : List ℕ) (c e t u at : ℕ) (out : List ℕ) : Type 0 where
   pub expands : Expands noted ends c t u
   pub from : first-note ends c ≤ e
   pub upto : e ≤ first-note ends (c + 1)
-  pub room : at + 8 * length (listed-from noted ends c e t u) ≤ size
+  pub room : at + 8 * length (listed-from noted ends c e t u) ≤ 32768
+  pub long : length out ≡ 32768
 
 -- The rows stand from place `at` on, and `next` is the place behind them.
 pub record Wrote (rows : List Row) (at next : ℕ) (old new : List ℕ) : Type 0 where

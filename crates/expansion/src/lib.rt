@@ -1,10 +1,12 @@
-// The rows of a component from notes of its invocations, and of those below it, into lent bytes: two functions that call each other.
+// The rows of a component from notes of its invocations, and of those below it: two functions that call each other.
+// They write to an array, whose reference is one word, so that a call in last place is a jump and the stack grows with the levels only.
 ghost use mathlib.Core.Path.{_≡_};
-ghost use mathlib.Core.List.{_∷_, []};
-ghost use Prim.Native.Nat.{_+_, _≤_, _<_};
-ghost use lib.ListN.{length};
+ghost use mathlib.Core.List.{_∷_, [], _++_};
+ghost use Prim.Native.Nat.{_+_, _*_, _≤_, _<_};
+ghost use lib.ListN.{length, drop};
+ghost use Rattle.expansion.specs.Bytes.{rows-bytes};
 ghost use Rattle.expansion.specs.Notes.{put-note, first-note, listed, listed-from};
-ghost use Rattle.expansion.specs.Asked.{Says, Asked, Asked-from, Wrote};
+ghost use Rattle.expansion.specs.Asked.{Says, Expands, Asked, Asked-from, Wrote};
 
 // A noted invocation: the invoked component, the offset, and the units of the instances before its own.
 pub struct Note {
@@ -57,8 +59,8 @@ fn first_note(ends: &[u16; 65], c: usize) -> usize
 }
 
 // One row; the place behind it.
-pub fn put_row(out: &mut [u8], at: usize, cycle: u32, unit: u32, c: usize) -> usize
-    requires { ⌜ at + 8 ≤ length (now out) ⌝ }
+fn put_row(out: &mut [u8; 32768], at: usize, cycle: u32, unit: u32, c: usize) -> usize
+    requires { ⌜ (at + 8 ≤ 32768) × (length (now out) ≡ 32768) ⌝ }
     ensures { λ r. ⌜ Wrote (record { cycle = cycle; unit = unit; component = c } ∷ []) at r (now (out .entry)) (now (out .exit)) ⌝ }
 {
     out[at] = (cycle % 256) as u8;
@@ -73,16 +75,16 @@ pub fn put_row(out: &mut [u8], at: usize, cycle: u32, unit: u32, c: usize) -> us
 }
 
 // The rows of component c, begun in a cycle, its units numbered from a unit on; the place behind them.
-pub fn expand(
+fn expand(
     noted: &[u16; 11904],
     ends: &[u16; 65],
     c: usize,
     cycle: u32,
     unit: u32,
     at: usize,
-    out: &mut [u8],
+    out: &mut [u8; 32768],
 ) -> usize
-    requires { ⌜ Asked (now noted) (now ends) c cycle unit at (length (now out)) ⌝ }
+    requires { ⌜ Asked (now noted) (now ends) c cycle unit at (now out) ⌝ }
     ensures { λ r. ⌜ Wrote (listed (now (noted .entry)) (now (ends .entry)) c cycle unit) at r (now (out .entry)) (now (out .exit)) ⌝ }
 {
     let first = first_note(ends, c);
@@ -93,7 +95,7 @@ pub fn expand(
 }
 
 // The rows of the noted invocations of component c, from note e on; the place behind them.
-pub fn expand_invocations(
+fn expand_invocations(
     noted: &[u16; 11904],
     ends: &[u16; 65],
     c: usize,
@@ -101,9 +103,9 @@ pub fn expand_invocations(
     cycle: u32,
     unit: u32,
     at: usize,
-    out: &mut [u8],
+    out: &mut [u8; 32768],
 ) -> usize
-    requires { ⌜ Asked-from (now noted) (now ends) c e cycle unit at (length (now out)) ⌝ }
+    requires { ⌜ Asked-from (now noted) (now ends) c e cycle unit at (now out) ⌝ }
     ensures { λ r. ⌜ Wrote (listed-from (now (noted .entry)) (now (ends .entry)) c e cycle unit) at r (now (out .entry)) (now (out .exit)) ⌝ }
 {
     if first_note(ends, c + 1) <= e {
@@ -120,4 +122,14 @@ pub fn expand_invocations(
         out,
     );
     expand_invocations(noted, ends, c, e + 1, cycle, unit, next, out)
+}
+
+// The rows of component c into lent bytes, `size` of them.
+pub fn write(noted: &[u16; 11904], ends: &[u16; 65], c: usize, size: usize, out: &mut [u8])
+    requires { ⌜ Expands (now noted) (now ends) c 0 0 × (size ≡ 8 * length (listed (now noted) (now ends) c 0 0)) × (size ≤ 32768) × (size ≤ length (now out)) ⌝ }
+    ensures { λ _. ⌜ now (out .exit) ≡ rows-bytes (listed (now (noted .entry)) (now (ends .entry)) c 0 0) ++ drop size (now (out .entry)) ⌝ }
+{
+    let mut rows = [0u8; 32768];
+    expand(noted, ends, c, 0, 0, 0, &mut rows);
+    bytes::copy(&rows[0..size], &mut out[0..size]);
 }

@@ -5,7 +5,6 @@ use mathlib.Core.Path.{_≡_, refl, ap, sym, _∙_}
 use mathlib.Core.Bool.{true, false, _&&_}
 use mathlib.Core.List.{List, _++_}
 use native.Mathlib.Omega.{arith}
-use native.Mathlib.Nat.{zero-add}
 use native.Mathlib.Decide.{decLt}
 use lib.ListN.{length, getD, drop}
 use lib.Dec.{leb}
@@ -14,13 +13,12 @@ use Rattle.numbers.specs.Tests.{and-both}
 use Rattle.answers.specs.Answer.{Answer, accepted, refused}
 use Rattle.timeline.specs.Design.{Design}
 use Rattle.timeline.specs.Rules.{Lawful}
-use Rattle.timeline.specs.Flat.{row-count, unit-count, rows-from, rows}
+use Rattle.timeline.specs.Flat.{row-count, unit-count, rows}
 use Rattle.timeline.specs.Proofs.Rows.{rows-length, rows-none}
-use Rattle.expansion.specs.Bytes.{rows-bytes, pasted}
+use Rattle.expansion.specs.Bytes.{rows-bytes}
 use Rattle.expansion.specs.Notes.{listed}
-use Rattle.expansion.specs.Asked.{Asked, Wrote}
+use Rattle.expansion.specs.Asked.{Expands}
 use Rattle.expansion.specs.Noted.{capped}
-use Rattle.expansion.proofs.Pasted.{length-rows-bytes}
 use Rattle.expansion.proofs.Same.{noted-sound, listed-rows}
 use Rattle.counting.specs.Known.{Known}
 use Rattle.listing.specs.Answer.{fits, flat-answer, flat-left}
@@ -65,7 +63,7 @@ module _ (D : Design) (c : ℕ) (old : List ℕ) where
         (rw z at (a .0), sym (rw (z, rows-none D c 0 0 z)) ∙ a .1)
 
 -- A component that has been counted.
-module _ {D : Design} (lawful : Lawful D) (c : ℕ) (h : c < length D) (counts units noted ends : List ℕ) (k : Known D (c + 1) counts units noted ends) where
+module _ {D : Design} (lawful : Lawful D) (c : ℕ) (h : c < length D) {counts units noted ends : List ℕ} (k : Known D (c + 1) counts units noted ends) where
   pub fits-is : (room : ℕ) → fits (getD counts c 0) (getD units c 0) room ≡ fits (row-count D c) (unit-count D c) room
   fits-is room = rw (k .row-counts c (omega arith), k .unit-counts c (omega arith)) (fits-capped (row-count D c) (unit-count D c) room)
 
@@ -90,22 +88,17 @@ module _ {D : Design} (lawful : Lawful D) (c : ℕ) (h : c < length D) (counts u
           let e = count-is in
           listed-rows lawful (k .notes) (omega arith) (suc c) c 0 0 (omega arith) (omega arith) (omega arith) (w .1)
 
-      pub expand-asked : Asked noted ends c 0 0 0 (length old)
+      pub write-asked : (size : ℕ) → size ≡ 8 * getD counts c 0 → Expands noted ends c 0 0 × (size ≡ 8 * length (listed noted ends c 0 0)) × (size ≤ 32768) × (size ≤ length old)
       unfolding rows
-      expand-asked =
+      write-asked size es =
           let w = fits-says (row-count D c) (unit-count D c) (length old) fine in
           let l = rows-length D c 0 0 in
           let e = ap length rows-are in
+          let n = count-is in
           let q = lawful .few in
-          record {
-            expands = record { sound = noted-sound lawful (k .notes) (omega arith); few = omega arith; cycles = omega arith; units = omega arith };
-            room = omega arith;
-          }
+          (record { sound = noted-sound lawful (k .notes) (omega arith); few = omega arith; cycles = omega arith; units = omega arith }, omega arith, omega arith, omega arith)
 
-      pub some-left : (r : ℕ) (new : List ℕ) → Wrote (listed noted ends c 0 0) 0 r old new → Answers D c old (accepted (getD counts c 0)) new
-      unfolding pasted rows
-      some-left r new w =
+      pub some-left : (size : ℕ) (new : List ℕ) → size ≡ 8 * getD counts c 0 → new ≡ rows-bytes (listed noted ends c 0 0) ++ drop size old → Answers D c old (accepted (getD counts c 0)) new
+      some-left size new es w =
           let a = listed-left D c old h fine in
-          let l = length-rows-bytes (rows-from D c 0 0) in
-          let e : length (rows-bytes (rows-from D c 0 0)) ≡ 8 * row-count D c = l ∙ ap (λ n. 8 * n) (rows-length D c 0 0) in
-          (rw count-is (a .0), w .bytes ∙ rw (rows-are, zero-add, e) (a .1))
+          (rw count-is (a .0), w ∙ rw (rows-are, es, count-is) (a .1))

@@ -64,7 +64,7 @@ fn list_opened(
         if n == 0 {
             return Written::Done(0);
         }
-        expansion::expand(&noted, &ends, asked, 0, 0, 0, out);
+        expansion::write(&noted, &ends, asked, 8 * index(n), out);
         return Written::Done(index(n));
     }
     refused(Fault::Room, 0)

@@ -2,12 +2,10 @@
 -- What falls at each call is the pair of the component number and the notes left; the laws of Calls say what each call asks and leaves.
 -- Assumes nothing.
 use Prim.Native.Nat.{ℕ, _+_, _-_, _*_, _<_}
-use mathlib.Core.Path.{refl, _∙_}
 use native.Mathlib.Omega.{arith}
-use lib.ListN.{length}
 use Rattle.expansion.specs.Notes.{first-note}
 use Rattle.expansion.proofs.Listed.{listed-leaf, listed-notes, from-none}
-use Rattle.expansion.proofs.Calls.{wrote-none, leaf-room, notes-asked, note-within, lower, sub-asked, next-asked, notes-wrote}
+use Rattle.expansion.proofs.Calls.{wrote-none, leaf-asked, notes-asked, note-within, lower, sub-asked, next-asked, notes-wrote}
 use borrow.Fn.Kinds.{In}
 use borrow.Fn.PlainCycle.{Measures, is, falls, and}
 use Rattle.expansion.proofs.expand.Reads as expand
@@ -88,20 +86,10 @@ expand-expand-invocations-requires : (t : ℕ) → expand-lts.Need-expand-invoca
   put-row-reads.Asked,
   put-row-reads.Learnt,
 ) (expand-at t) expand.Post
-expand-expand-invocations-requires t c κs = let S = c .before .before .before .before .before in let A = S .args in
-    let h : first-note (A .ends .now) (A .c) < first-note (A .ends .now) (A .c + 1) = omega arith in
-    let w = S .pre .1 .expands .sound .within (A .c) (omega arith) in
-    (omega (arith, S .pre .0), rw (c .before .before .before .first-note .ensures .0) (notes-asked (A .noted .now) (A .ends .now) (A .c) (A .cycle) (A .unit) (A .at) (length (A .out .now)) (S .pre .1) h))
-
-expand-same-length : (t : ℕ) → expand-lts.Need-same-length (
-  first-note-reads.Asked,
-  first-note-reads.Learnt,
-  expand-invocations-below t,
-  expand-invocations.Post,
-  put-row-reads.Asked,
-  put-row-reads.Learnt,
-) (expand-at t) expand.Post
-expand-same-length t c = c .before .before .expand-invocations .kept .1 .1 .1 .1 .1 .1 .1 .0
+expand-expand-invocations-requires t c κs = let S = c .before .before .before .before in
+    let h : first-note (S .args .ends .now) (S .args .c) < first-note (S .args .ends .now) (S .args .c + 1) = omega arith in
+    let w = S .pre .1 .expands .sound .within (S .args .c) (omega arith) in
+    (omega (arith, S .pre .0), rw (c .before .before .before .first-note .ensures .0) (notes-asked (S .pre .1) h))
 
 expand-returns : (t : ℕ) → expand-lts.Need-returns (
   first-note-reads.Asked,
@@ -111,9 +99,9 @@ expand-returns : (t : ℕ) → expand-lts.Need-returns (
   put-row-reads.Asked,
   put-row-reads.Learnt,
 ) (expand-at t) expand.Post
-expand-returns t c = let A = c .before .before .before .before .before .before .before .before .args in
+expand-returns t c = let A = c .before .before .before .before .before .args in
     let h : first-note (A .ends .now) (A .c) < first-note (A .ends .now) (A .c + 1) = omega arith in
-    rw (listed-notes (A .noted .now) (A .ends .now) (A .c) (A .cycle) (A .unit) h, ← c .before .before .before .before .before .before .first-note .ensures .0) (c .before .before .expand-invocations .ensures)
+    rw (listed-notes (A .noted .now) (A .ends .now) (A .c) (A .cycle) (A .unit) h, ← c .before .before .before .before .first-note .ensures .0) (c .expand-invocations .ensures)
 
 expand-put-row-requires : (t : ℕ) → expand-lts.Need-put-row-requires (
   first-note-reads.Asked,
@@ -123,18 +111,7 @@ expand-put-row-requires : (t : ℕ) → expand-lts.Need-put-row-requires (
   put-row-reads.Asked,
   put-row-reads.Learnt,
 ) (expand-at t) expand.Post
-expand-put-row-requires t c κs = let S = c .before .before .before .before .before in let A = S .args in
-    leaf-room (A .noted .now) (A .ends .now) (A .c) (A .cycle) (A .unit) (A .at) (length (A .out .now)) (S .pre .1) (omega arith)
-
-expand-same-length-2 : (t : ℕ) → expand-lts.Need-same-length-2 (
-  first-note-reads.Asked,
-  first-note-reads.Learnt,
-  expand-invocations-below t,
-  expand-invocations.Post,
-  put-row-reads.Asked,
-  put-row-reads.Learnt,
-) (expand-at t) expand.Post
-expand-same-length-2 t c = c .before .before .put-row .kept .0
+expand-put-row-requires t c κs = leaf-asked (c .before .before .before .before .pre .1) (omega arith)
 
 expand-returns-2 : (t : ℕ) → expand-lts.Need-returns-2 (
   first-note-reads.Asked,
@@ -144,8 +121,8 @@ expand-returns-2 : (t : ℕ) → expand-lts.Need-returns-2 (
   put-row-reads.Asked,
   put-row-reads.Learnt,
 ) (expand-at t) expand.Post
-expand-returns-2 t c = let A = c .before .before .before .before .before .before .before .before .args in
-    rw (listed-leaf (A .noted .now) (A .ends .now) (A .c) (A .cycle) (A .unit) (omega arith)) (c .before .before .put-row .ensures)
+expand-returns-2 t c = let A = c .before .before .before .before .before .args in
+    rw (listed-leaf (A .noted .now) (A .ends .now) (A .c) (A .cycle) (A .unit) (omega arith)) (c .put-row .ensures)
 
 expand-invocations-add-first-note : (t : ℕ) → expand-invocations-lts.Need-add-first-note (
   first-note-reads.Asked,
@@ -181,7 +158,7 @@ expand-invocations-returns : (t : ℕ) → expand-invocations-lts.Need-returns (
   expand-invocations-below t,
   expand-invocations.Post,
 ) (expand-invocations-at t) expand-invocations.Post
-expand-invocations-returns t c = let A = c .before .before .before .args in
+expand-invocations-returns t c = let A = c .before .before .args in
     rw (from-none (A .noted .now) (A .ends .now) (A .c) (A .e) (A .cycle) (A .unit) (omega arith)) (wrote-none (A .out .now) (A .at))
 
 expand-invocations-note-at-requires : (t : ℕ) → expand-invocations-lts.Need-note-at-requires (
@@ -194,8 +171,7 @@ expand-invocations-note-at-requires : (t : ℕ) → expand-invocations-lts.Need-
   expand-invocations-below t,
   expand-invocations.Post,
 ) (expand-invocations-at t) expand-invocations.Post
-expand-invocations-note-at-requires t c κs = let S = c .before .before .before in let A = S .args in
-    note-within (A .noted .now) (A .ends .now) (A .c) (A .e) (A .cycle) (A .unit) (A .at) (length (A .out .now)) (S .pre .1) (omega arith)
+expand-invocations-note-at-requires t c κs = note-within (c .before .before .pre .1) (omega arith)
 
 expand-invocations-add-expand : (t : ℕ) → expand-invocations-lts.Need-add-expand (
   first-note-reads.Asked,
@@ -207,8 +183,7 @@ expand-invocations-add-expand : (t : ℕ) → expand-invocations-lts.Need-add-ex
   expand-invocations-below t,
   expand-invocations.Post,
 ) (expand-invocations-at t) expand-invocations.Post
-expand-invocations-add-expand t c = let S = c .before .before .before .before .before in let A = S .args in let N = c .before .note-at in
-    omega (arith, lower (A .noted .now) (A .ends .now) (A .c) (A .e) (A .cycle) (A .unit) (A .at) (length (A .out .now)) (S .pre .1) (omega arith) (N .result .component) (N .result .offset) (N .result .units) (N .ensures))
+expand-invocations-add-expand t c = omega (arith, lower (c .before .before .before .before .pre .1) (omega arith) (c .before .note-at .ensures))
 
 expand-invocations-add-expand-2 : (t : ℕ) → expand-invocations-lts.Need-add-expand-2 (
   first-note-reads.Asked,
@@ -220,8 +195,7 @@ expand-invocations-add-expand-2 : (t : ℕ) → expand-invocations-lts.Need-add-
   expand-invocations-below t,
   expand-invocations.Post,
 ) (expand-invocations-at t) expand-invocations.Post
-expand-invocations-add-expand-2 t c = let S = c .before .before .before .before .before .before in let A = S .args in let N = c .before .before .note-at in
-    omega (arith, lower (A .noted .now) (A .ends .now) (A .c) (A .e) (A .cycle) (A .unit) (A .at) (length (A .out .now)) (S .pre .1) (omega arith) (N .result .component) (N .result .offset) (N .result .units) (N .ensures))
+expand-invocations-add-expand-2 t c = omega (arith, lower (c .before .before .before .before .before .pre .1) (omega arith) (c .before .before .note-at .ensures))
 
 expand-invocations-expand-requires : (t : ℕ) → expand-invocations-lts.Need-expand-requires (
   first-note-reads.Asked,
@@ -233,10 +207,9 @@ expand-invocations-expand-requires : (t : ℕ) → expand-invocations-lts.Need-e
   expand-invocations-below t,
   expand-invocations.Post,
 ) (expand-invocations-at t) expand-invocations.Post
-expand-invocations-expand-requires t c κs = let S = c .before .before .before .before .before .before .before in let A = S .args in let N = c .before .before .before .note-at in
-    let h : A .e < first-note (A .ends .now) (A .c + 1) = omega arith in
-    let l = lower (A .noted .now) (A .ends .now) (A .c) (A .e) (A .cycle) (A .unit) (A .at) (length (A .out .now)) (S .pre .1) h (N .result .component) (N .result .offset) (N .result .units) (N .ensures) in
-    (omega (arith, S .pre .0), sub-asked (A .noted .now) (A .ends .now) (A .c) (A .e) (A .cycle) (A .unit) (A .at) (length (A .out .now)) (S .pre .1) h (N .result .component) (N .result .offset) (N .result .units) (N .ensures))
+expand-invocations-expand-requires t c κs = let S = c .before .before .before .before .before .before in
+    let h : S .args .e < first-note (S .args .ends .now) (S .args .c + 1) = omega arith in
+    (omega (arith, S .pre .0, lower (S .pre .1) h (c .before .before .before .note-at .ensures)), sub-asked (S .pre .1) h (c .before .before .before .note-at .ensures))
 
 expand-invocations-add-expand-invocations :
     (t : ℕ) → expand-invocations-lts.Need-add-expand-invocations (
@@ -249,8 +222,7 @@ expand-invocations-add-expand-invocations :
       expand-invocations-below t,
       expand-invocations.Post,
     ) (expand-invocations-at t) expand-invocations.Post
-expand-invocations-add-expand-invocations t c = let S = c .before .before .before .before .before .before .before .before .before .before in let A = S .args in
-    omega (arith, note-within (A .noted .now) (A .ends .now) (A .c) (A .e) (A .cycle) (A .unit) (A .at) (length (A .out .now)) (S .pre .1) (omega arith))
+expand-invocations-add-expand-invocations t c = omega (arith, note-within (c .before .before .before .before .before .before .before .pre .1) (omega arith))
 
 expand-invocations-expand-invocations-requires :
     (t : ℕ) → expand-invocations-lts.Need-expand-invocations-requires (
@@ -263,21 +235,9 @@ expand-invocations-expand-invocations-requires :
       expand-invocations-below t,
       expand-invocations.Post,
     ) (expand-invocations-at t) expand-invocations.Post
-expand-invocations-expand-invocations-requires t c κs = let S = c .before .before .before .before .before .before .before .before .before .before .before in let A = S .args in let N = c .before .before .before .before .before .before .before .note-at in let E = c .before .before .before .expand in
-    let h : A .e < first-note (A .ends .now) (A .c + 1) = omega (arith, c .before .before .before .before .before .before .before .before .if1, c .before .before .before .before .before .before .before .before .before .first-note .ensures .0) in
-    (omega (arith, S .pre .0), rw (E .ensures .behind, E .kept .1 .1 .1 .1 .1 .1 .0) (next-asked (A .noted .now) (A .ends .now) (A .c) (A .e) (A .cycle) (A .unit) (A .at) (length (A .out .now)) (S .pre .1) h (N .result .component) (N .result .offset) (N .result .units) (N .ensures)))
-
-expand-invocations-same-length : (t : ℕ) → expand-invocations-lts.Need-same-length (
-  first-note-reads.Asked,
-  first-note-reads.Learnt,
-  note-at-reads.Asked,
-  note-at-reads.Learnt,
-  expand-below t,
-  expand.Post,
-  expand-invocations-below t,
-  expand-invocations.Post,
-) (expand-invocations-at t) expand-invocations.Post
-expand-invocations-same-length t c = c .before .before .expand-invocations .kept .1 .1 .1 .1 .1 .1 .1 .0 ∙ c .before .before .before .before .before .before .expand .kept .1 .1 .1 .1 .1 .1 .0
+expand-invocations-expand-invocations-requires t c κs = let S = c .before .before .before .before .before .before .before .before in
+    let h : S .args .e < first-note (S .args .ends .now) (S .args .c + 1) = omega (arith, c .before .before .before .before .before .before .if1, c .before .before .before .before .before .before .before .first-note .ensures .0) in
+    (omega (arith, S .pre .0), next-asked (S .pre .1) h (c .before .before .before .before .before .note-at .ensures) (c .before .expand .ensures))
 
 expand-invocations-returns-2 : (t : ℕ) → expand-invocations-lts.Need-returns-2 (
   first-note-reads.Asked,
@@ -289,9 +249,9 @@ expand-invocations-returns-2 : (t : ℕ) → expand-invocations-lts.Need-returns
   expand-invocations-below t,
   expand-invocations.Post,
 ) (expand-invocations-at t) expand-invocations.Post
-expand-invocations-returns-2 t c = let S = c .before .before .before .before .before .before .before .before .before .before .before .before .before .before in let A = S .args in let N = c .before .before .before .before .before .before .before .before .before .before .note-at in
-    let h : A .e < first-note (A .ends .now) (A .c + 1) = omega (arith, c .before .before .before .before .before .before .before .before .before .before .before .if1, c .before .before .before .before .before .before .before .before .before .before .before .before .first-note .ensures .0) in
-    notes-wrote (A .noted .now) (A .ends .now) (A .c) (A .e) (A .cycle) (A .unit) (A .at) (length (A .out .now)) (S .pre .1) h (N .result .component) (N .result .offset) (N .result .units) (N .ensures) _ _ (A .out .now) _ _ refl (c .before .before .before .before .before .before .expand .ensures) (c .before .before .expand-invocations .ensures)
+expand-invocations-returns-2 t c = let S = c .before .before .before .before .before .before .before .before .before in
+    let h : S .args .e < first-note (S .args .ends .now) (S .args .c + 1) = omega (arith, c .before .before .before .before .before .before .before .if1, c .before .before .before .before .before .before .before .before .first-note .ensures .0) in
+    notes-wrote (S .pre .1) h (c .before .before .before .before .before .before .note-at .ensures) (c .before .before .expand .ensures) (c .expand-invocations .ensures)
 
 pub +expand+expand-invocations-spec : {M : Type 1} → statement M
 +expand+expand-invocations-spec = close μ-expand μ-expand-invocations (λ t. expand-lts.spec (
@@ -308,10 +268,8 @@ pub +expand+expand-invocations-spec : {M : Type 1} → statement M
     (expand-add-first-note t)
     (expand-first-note-requires-2 t)
     (expand-expand-invocations-requires t)
-    (expand-same-length t)
     (expand-returns t)
     (expand-put-row-requires t)
-    (expand-same-length-2 t)
     (expand-returns-2 t))
     λ t. expand-invocations-lts.spec (
       first-note-reads.Asked,
@@ -334,5 +292,4 @@ pub +expand+expand-invocations-spec : {M : Type 1} → statement M
     (expand-invocations-expand-requires t)
     (expand-invocations-add-expand-invocations t)
     (expand-invocations-expand-invocations-requires t)
-    (expand-invocations-same-length t)
     (expand-invocations-returns-2 t)

@@ -1,12 +1,13 @@
 -- `listing::list_opened` meets its contract. The answer and the bytes left, by the cases of Answered.
 -- Assumes nothing.
+use Prim.Native.Nat.{_*_}
 use mathlib.Core.Path.{ap, sym, _∙_}
 use native.Mathlib.Omega.{arith}
 use lib.ListN.{length}
 use Rattle.answers.specs.Answer.{written}
 use Rattle.groups.specs.Groups.{design-of}
 use Rattle.counting.proofs.Grown.{known-none}
-use Rattle.listing.proofs.Answered.{absent, no-room, fits-is, none-left, expand-asked, some-left}
+use Rattle.listing.proofs.Answered.{absent, no-room, fits-is, none-left, write-asked, some-left}
 use borrow.Author.Needs.{needs}
 use Rattle.listing.proofs.list_opened.Statement.{statement}
 use Rattle.listing.proofs.list_opened.Tie as tie
@@ -36,25 +37,31 @@ fits-requires : tie.Need-fits-requires
 fits-requires c κs = search needs
 
 returns-2 : tie.Need-returns-2
-returns-2 c = none-left (c .before .before .before .before .before .before .before .before .before .before .before .pre .0 .lawful) (c .before .before .before .before .before .before .before .before .before .before .before .args .asked) (let e = c .before .before .before .before .before .before .before .before .before .before .before .pre .1 in let l = c .before .before .before .before .before .before .before .before .if1 .left in omega arith) (c .before .before .before .count .last .1 .1 .1 .1 .1 .0) (c .before .before .before .count .last .1 .1 .1 .1 .1 .1 .0) (c .before .before .before .count .last .1 .1 .1 .1 .1 .1 .1 .0) (c .before .before .before .count .last .1 .1 .1 .1 .1 .1 .1 .1 .0) (c .before .before .before .count .ensures) (c .before .before .before .before .before .before .before .before .before .before .before .args .out .now) (sym (c .before .before .fits2 .ensures) ∙ c .before .if2 .taken) (c .if3 .taken)
-
-expand-requires : tie.Need-expand-requires
-expand-requires c κs = expand-asked (c .before .before .before .before .before .before .before .before .before .before .before .before .before .before .pre .0 .lawful) (c .before .before .before .before .before .before .before .before .before .before .before .before .before .before .args .asked) (let e = c .before .before .before .before .before .before .before .before .before .before .before .before .before .before .pre .1 in let l = c .before .before .before .before .before .before .before .before .before .before .before .if1 .left in omega arith) (c .before .before .before .before .before .before .count .last .1 .1 .1 .1 .1 .0) (c .before .before .before .before .before .before .count .last .1 .1 .1 .1 .1 .1 .0) (c .before .before .before .before .before .before .count .last .1 .1 .1 .1 .1 .1 .1 .0) (c .before .before .before .before .before .before .count .last .1 .1 .1 .1 .1 .1 .1 .1 .0) (c .before .before .before .before .before .before .count .ensures) (c .before .before .before .before .before .before .before .before .before .before .before .before .before .before .args .out .now) (sym (c .before .before .before .before .before .fits2 .ensures) ∙ c .before .before .before .before .if2 .taken) (c .before .before .before .if3 .left)
+returns-2 c = none-left (c .before .before .before .before .before .before .before .before .before .before .before .pre .0 .lawful) (c .before .before .before .before .before .before .before .before .before .before .before .args .asked) (let e = c .before .before .before .before .before .before .before .before .before .before .before .pre .1 in let l = c .before .before .before .before .before .before .before .before .if1 .left in omega arith) (c .before .before .before .count .ensures) (c .before .before .before .before .before .before .before .before .before .before .before .args .out .now) (sym (c .before .before .fits2 .ensures) ∙ c .before .if2 .taken) (c .if3 .taken)
 
 index-requires : tie.Need-index-requires
 index-requires c κs = search needs
 
+mul-write : tie.Need-mul-write
+mul-write c = omega (arith, c .index .ensures .1)
+
+write-requires : tie.Need-write-requires
+write-requires c κs = write-asked (c .before .before .before .before .before .before .before .before .before .before .before .before .before .before .before .pre .0 .lawful) (c .before .before .before .before .before .before .before .before .before .before .before .before .before .before .before .args .asked) (let e = c .before .before .before .before .before .before .before .before .before .before .before .before .before .before .before .pre .1 in let l = c .before .before .before .before .before .before .before .before .before .before .before .before .if1 .left in omega arith) (c .before .before .before .before .before .before .before .count .ensures) (c .before .before .before .before .before .before .before .before .before .before .before .before .before .before .before .args .out .now) (sym (c .before .before .before .before .before .before .fits2 .ensures) ∙ c .before .before .before .before .before .if2 .taken) (c .before .before .before .before .if3 .left) (8 * c .before .index .result) (ap (λ n. 8 * n) (c .before .index .ensures .0))
+
+index-requires-2 : tie.Need-index-requires-2
+index-requires-2 c κs = search needs
+
 same-length : tie.Need-same-length
-same-length c = c .before .before .before .expand .kept .1 .1 .1 .1 .1 .1 .0
+same-length c = c .before .before .before .write .kept .1 .1 .1 .1 .0
 
 returns-3 : tie.Need-returns-3
-returns-3 c = rw (c .index .ensures .0) (some-left (c .before .before .before .before .before .before .before .before .before .before .before .before .before .before .before .before .before .before .pre .0 .lawful) (c .before .before .before .before .before .before .before .before .before .before .before .before .before .before .before .before .before .before .args .asked) (let e = c .before .before .before .before .before .before .before .before .before .before .before .before .before .before .before .before .before .before .pre .1 in let l = c .before .before .before .before .before .before .before .before .before .before .before .before .before .before .before .if1 .left in omega arith) (c .before .before .before .before .before .before .before .before .before .before .count .last .1 .1 .1 .1 .1 .0) (c .before .before .before .before .before .before .before .before .before .before .count .last .1 .1 .1 .1 .1 .1 .0) (c .before .before .before .before .before .before .before .before .before .before .count .last .1 .1 .1 .1 .1 .1 .1 .0) (c .before .before .before .before .before .before .before .before .before .before .count .last .1 .1 .1 .1 .1 .1 .1 .1 .0) (c .before .before .before .before .before .before .before .before .before .before .count .ensures) (c .before .before .before .before .before .before .before .before .before .before .before .before .before .before .before .before .before .before .args .out .now) (sym (c .before .before .before .before .before .before .before .before .before .fits2 .ensures) ∙ c .before .before .before .before .before .before .before .before .if2 .taken) (c .before .before .before .before .before .before .before .if3 .left) (c .before .before .before .expand .result) _ (c .before .before .before .expand .ensures))
+returns-3 c = rw (c .index2 .ensures .0) (some-left (c .before .before .before .before .before .before .before .before .before .before .before .before .before .before .before .before .before .before .before .pre .0 .lawful) (c .before .before .before .before .before .before .before .before .before .before .before .before .before .before .before .before .before .before .before .args .asked) (let e = c .before .before .before .before .before .before .before .before .before .before .before .before .before .before .before .before .before .before .before .pre .1 in let l = c .before .before .before .before .before .before .before .before .before .before .before .before .before .before .before .before .if1 .left in omega arith) (c .before .before .before .before .before .before .before .before .before .before .before .count .ensures) (c .before .before .before .before .before .before .before .before .before .before .before .before .before .before .before .before .before .before .before .args .out .now) (sym (c .before .before .before .before .before .before .before .before .before .before .fits2 .ensures) ∙ c .before .before .before .before .before .before .before .before .before .if2 .taken) (c .before .before .before .before .before .before .before .before .if3 .left) (8 * c .before .before .before .before .before .index .result) _ (ap (λ n. 8 * n) (c .before .before .before .before .before .index .ensures .0)) (c .before .before .before .write .ensures))
 
 refused-requires-2 : tie.Need-refused-requires-2
 refused-requires-2 c κs = search needs
 
 returns-4 : tie.Need-returns-4
-returns-4 c = let a = no-room (design-of (c .before .before .before .before .before .before .before .before .before .before .before .args .file .now) (c .before .before .before .before .before .before .before .before .before .before .before .args .records)) (c .before .before .before .before .before .before .before .before .before .before .before .args .asked) (c .before .before .before .before .before .before .before .before .before .before .before .args .out .now) (let e = c .before .before .before .before .before .before .before .before .before .before .before .pre .1 in let l = c .before .before .before .before .before .before .before .before .if1 .left in omega arith) (sym (fits-is (c .before .before .before .before .before .before .before .before .before .before .before .pre .0 .lawful) (c .before .before .before .before .before .before .before .before .before .before .before .args .asked) (let e = c .before .before .before .before .before .before .before .before .before .before .before .pre .1 in let l = c .before .before .before .before .before .before .before .before .if1 .left in omega arith) (c .before .before .before .count .last .1 .1 .1 .1 .1 .0) (c .before .before .before .count .last .1 .1 .1 .1 .1 .1 .0) (c .before .before .before .count .last .1 .1 .1 .1 .1 .1 .1 .0) (c .before .before .before .count .last .1 .1 .1 .1 .1 .1 .1 .1 .0) (c .before .before .before .count .ensures) (length (c .before .before .before .before .before .before .before .before .before .before .before .args .out .now))) ∙ sym (c .before .before .fits2 .ensures) ∙ c .before .if2 .left) in (ap written (c .refused2 .ensures) ∙ a .0, a .1)
+returns-4 c = let a = no-room (design-of (c .before .before .before .before .before .before .before .before .before .before .before .args .file .now) (c .before .before .before .before .before .before .before .before .before .before .before .args .records)) (c .before .before .before .before .before .before .before .before .before .before .before .args .asked) (c .before .before .before .before .before .before .before .before .before .before .before .args .out .now) (let e = c .before .before .before .before .before .before .before .before .before .before .before .pre .1 in let l = c .before .before .before .before .before .before .before .before .if1 .left in omega arith) (sym (fits-is (c .before .before .before .before .before .before .before .before .before .before .before .pre .0 .lawful) (c .before .before .before .before .before .before .before .before .before .before .before .args .asked) (let e = c .before .before .before .before .before .before .before .before .before .before .before .pre .1 in let l = c .before .before .before .before .before .before .before .before .if1 .left in omega arith) (c .before .before .before .count .ensures) (length (c .before .before .before .before .before .before .before .before .before .before .before .args .out .now))) ∙ sym (c .before .before .fits2 .ensures) ∙ c .before .if2 .left) in (ap written (c .refused2 .ensures) ∙ a .0, a .1)
 
 pub list-opened-spec : {M : Type 1} → statement M
 list-opened-spec =
@@ -69,8 +76,10 @@ list-opened-spec =
     array-read-fits
     fits-requires
     returns-2
-    expand-requires
     index-requires
+    mul-write
+    write-requires
+    index-requires-2
     same-length
     returns-3
     refused-requires-2
