@@ -15,8 +15,9 @@ use Rattle.entry.specs.Numbers.{component-number}
 use Rattle.expansion.specs.Notes.{first-note}
 use Rattle.expansion.specs.Noted.{capped, Notes-of, Alike, Noted}
 use Rattle.expansion.proofs.Noting.{notes-start, notes-alike}
-use Rattle.counting.specs.Known.{Counts, Noting, Known}
-use Rattle.counting.proofs.Places.{in-order}
+use Rattle.groups.specs.Groups.{design-of}
+use Rattle.counting.specs.Known.{Opened-at, Counts, Noting, Known}
+use Rattle.counting.proofs.Places.{in-order, present, few-components, component-within}
 use Rattle.counting.proofs.Turns.{rows-all}
 
 pub counts-more : (count : ℕ → ℕ) (c x : ℕ) (l : List ℕ) → Counts count c l → c < length l → x ≡ capped (count c) → Counts count (c + 1) (set l c x)
@@ -58,23 +59,32 @@ module _ (D : Design) (noted ends : List ℕ) (c : ℕ) (n : Noted D noted ends 
           rw (first-same ends c z (d + 1) (omega arith), first-same ends c z d (omega arith))
           (notes-alike D d new noted (invocation-count D d) (first-note ends d) (first-note ends (d + 1)) (λ i k. s i (omega arith)) (n .notes d (omega arith)))
 
-module _ {D : Design} (lawful : Lawful D) (c : ℕ) (h : c < length D) (end : component-number D (c + 1) ≤ 3968)
-    (rows units noted ends : List ℕ) (k : Known D c rows units noted ends) where
+module _ {file table : List ℕ} {components n c : ℕ} (o : Opened-at file table components n c) {rows units noted ends : List ℕ} (k : Known (design-of file n) c rows units noted ends) where
+  abbrev D : Design
+  D = design-of file n
+
+  abbrev lawful : Lawful D
+  lawful = o .opened .lawful
+
   few : c < 64
-  few = let f = lawful .few in omega arith
+  few = let f = few-components o in let t = o .there in omega arith
+
+  end : component-number D (c + 1) ≤ 3968
+  end = let w = component-within o in let f = o .opened .few in omega arith
 
   pub known-leaf : class D c ≡ leaf → Known D (c + 1) (set rows c 1) (set units c 1) noted (set ends (c + 1) (first-note ends c))
   known-leaf e =
       let f = few in
+      let m = end in
       let lr = k .long-rows in
       let lu = k .long-units in
       let le = k .long-ends in
-      let o = in-order D c h in
+      let q = in-order D c (present o) in
       let p = k .place in
-      let z = (lawful .whole c h) .leaf-invocations e in
+      let z = (lawful .whole c (present o)) .leaf-invocations e in
       record {
-        row-counts = counts-more (row-count D) c 1 rows (k .row-counts) (omega arith) (rw (row-count-leaf lawful c h e));
-        unit-counts = counts-more (unit-count D) c 1 units (k .unit-counts) (omega arith) (rw (unit-count-leaf lawful c h e));
+        row-counts = counts-more (row-count D) c 1 rows (k .row-counts) (omega arith) (rw (row-count-leaf lawful c (present o) e));
+        unit-counts = counts-more (unit-count D) c 1 units (k .unit-counts) (omega arith) (rw (unit-count-leaf lawful c (present o) e));
         notes = noted-more D noted ends c (k .notes) noted (first-note ends c) (λ i b. refl) (rw z (notes-start D c noted (first-note ends c))) (omega arith) (omega arith);
         place = rw (first-last ends c (first-note ends c) (omega arith)) (omega arith);
         long-rows = simp length-set lr;
@@ -83,17 +93,18 @@ module _ {D : Design} (lawful : Lawful D) (c : ℕ) (h : c < length D) (end : co
         long-ends = simp length-set le;
       }
 
-  pub known-built : (s u z : ℕ) (new : List ℕ) → class D c ≡ built → u ≡ capped (unit-count D c) → Noting D c (invocation-count D c) (first-note ends c) z s noted new
+  pub known-built : {s u z : ℕ} {new : List ℕ} → class D c ≡ built → u ≡ capped (unit-count D c) → Noting D c (invocation-count D c) (first-note ends c) z s noted new
       → Known D (c + 1) (set rows c s) (set units c u) new (set ends (c + 1) z)
-  known-built s u z new e eu t =
+  known-built {s} {u} {z} {new} e eu t =
       let f = few in
+      let m = end in
       let lr = k .long-rows in
       let lu = k .long-units in
       let le = k .long-ends in
-      let o = in-order D c h in
+      let q = in-order D c (present o) in
       let p = t .place in
       record {
-        row-counts = counts-more (row-count D) c s rows (k .row-counts) (omega arith) (t .rows-are ∙ ap capped (rows-all lawful c h e));
+        row-counts = counts-more (row-count D) c s rows (k .row-counts) (omega arith) (t .rows-are ∙ ap capped (rows-all lawful c (present o) e));
         unit-counts = counts-more (unit-count D) c u units (k .unit-counts) (omega arith) eu;
         notes = noted-more D noted ends c (k .notes) new z (t .kept) (t .notes) (omega arith) (omega arith);
         place = rw (first-last ends c z (omega arith)) (omega arith);

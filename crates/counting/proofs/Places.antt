@@ -100,7 +100,7 @@ module _ {file table : List ℕ} {components n c : ℕ} (o : Opened-at file tabl
     calls-end = component-past ∙ rw (add-one c) (component-ends (o .opened) c present b)
 
   -- What stands in the record of instance m, counted from the first.
-  module _ (first : ℕ) (ef : first ≡ instance-number D c 0) where
+  module _ {first : ℕ} (ef : first ≡ instance-number D c 0) where
     pub instance-read : (m : ℕ) → m < instance-count D c → Lies file (first + m) × (first-number file (first + m) ≡ made-of D c m)
     instance-read m l =
         let e : first + m ≡ instance-number D c m = rw ef (sym (instance-on D c m)) in
@@ -117,9 +117,9 @@ module _ {file table : List ℕ} {components n c : ℕ} (o : Opened-at file tabl
       pub lower : invoked D c j < c
       pub next : invocation-number D c (suc j) ≡ i + 1 + input-count D (invoked D c j)
 
-    pub invocation-read : (i j : ℕ) → i ≡ invocation-number D c j → j < invocation-count D c → Read i j
+    pub invocation-read : {i j : ℕ} → i ≡ invocation-number D c j → j < invocation-count D c → Read i j
     unfolding invoked
-    invocation-read i j e l =
+    invocation-read {i} {j} e l =
         let s = invocation-says (o .opened) c present j l in
         let r = (o .opened .lawful .rules c present) .references in
         let m = r .named j l in
@@ -148,7 +148,7 @@ module _ {file table : List ℕ} {components n c : ℕ} (o : Opened-at file tabl
   outputs-are = ap (λ w. w .outputs) (row-is (o .opened) c present)
 
   -- What finding the end of the instances asks and says.
-  module _ (first : ℕ) (ef : first ≡ past-ports (row-in table c)) where
+  module _ {first : ℕ} (ef : first ≡ past-ports (row-in table c)) where
     pub begins : first ≡ instance-number D c 0
     begins = ef ∙ ports-end
 
@@ -159,14 +159,14 @@ module _ {file table : List ℕ} {components n c : ℕ} (o : Opened-at file tabl
         let w = component-within in
         (omega arith, o .opened .few, o .opened .held)
 
-    pub instances-pass : (end : ℕ) → end ≡ past-instances file (n - first) first → (end ≡ first + instance-count D c) × (end ≡ invocation-number D c 0)
-    instances-pass end e =
+    pub instances-pass : {end : ℕ} → end ≡ past-instances file (n - first) first → (end ≡ first + instance-count D c) × (end ≡ invocation-number D c 0)
+    instances-pass {end} e =
         let b = begins in
         let q : end ≡ invocation-number D c 0 = e ∙ rw b (past-is (o .opened) c present) in
         (q ∙ instances-end D c ∙ ap (λ k. k + instance-count D c) (sym b), q)
 
   -- The class of the component, from its row.
-  module _ (w : Row) (e : w ≡ row-in table c) where
+  module _ {w : Row} (e : w ≡ row-in table c) where
     class-said : is-built (class D c) ≡ w .built
     class-said = sym (ap (λ v. v .built) (e ∙ row-is (o .opened) c present))
 

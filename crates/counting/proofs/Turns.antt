@@ -32,10 +32,10 @@ pub counted-none : (D : Design) (c : ℕ) (before : List ℕ) → length before 
 unfolding units-to
 counted-none D c before l = record { few = omega arith; sum-is = refl; before-is = λ i h. absurd (omega arith); long = l }
 
-module _ (D : Design) (c m sum : ℕ) (before : List ℕ) (s : Counted D c m sum before) (l : m < instance-count D c) (most : instance-count D c ≤ 32) where
-  pub counted-more : (k next : ℕ) → k ≡ capped (unit-count D (made-of D c m)) → next ≡ capped (sum + k) → Counted D c (m + 1) next (set before m sum)
+module _ {D : Design} {c m sum : ℕ} {before : List ℕ} (s : Counted D c m sum before) (l : m < instance-count D c) (most : instance-count D c ≤ 32) where
+  pub counted-more : {k next : ℕ} → k ≡ capped (unit-count D (made-of D c m)) → next ≡ capped (sum + k) → Counted D c (m + 1) next (set before m sum)
   unfolding units-to
-  counted-more k next ek en =
+  counted-more ek en =
       let e = s .sum-is in
       let w = s .long in
       record {
@@ -54,9 +54,9 @@ module _ {D : Design} (lawful : Lawful D) (c : ℕ) (h : c < length D) where
   unfolding units-to
   units-all e = sym (unit-count-built lawful c h e)
 
-  pub counted-all : (m sum : ℕ) (before : List ℕ) → class D c ≡ built → Counted D c m sum before → m ≡ instance-count D c
+  pub counted-all : {m sum : ℕ} {before : List ℕ} → class D c ≡ built → Counted D c m sum before → m ≡ instance-count D c
       → (sum ≡ capped (unit-count D c)) × Units-before D c (instance-count D c) before
-  counted-all m sum before e s q = (s .sum-is ∙ ap capped (rw q (units-all e)), rw q at (s .before-is))
+  counted-all e s q = (s .sum-is ∙ ap capped (rw q (units-all e)), rw q at (s .before-is))
 
   pub rows-all : class D c ≡ built → rows-to D c (invocation-count D c) ≡ row-count D c
   unfolding rows-to
