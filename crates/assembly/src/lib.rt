@@ -125,7 +125,7 @@ pub fn ended(line: &[u8], list: &mut [u8], before: State) -> State {
         return s;
     }
     if s.records == 0 {
-        return s.asks(Expected::Some);
+        return before.asks(Expected::Some);
     }
     s
 }

@@ -1,0 +1,50 @@
+#!/bin/sh
+# Makes, from each example's text, what is stored beside it: NAME.design (the packed file), NAME.verdict (the verdict's line) and NAME.shown
+# (the file as `show` writes it). With --check it changes nothing and says which stored file differs; its status is then 1.
+set -eu
+root=$(cd "$(dirname "$0")/.." && pwd -P)
+room=$(mktemp -d)
+trap 'rm -rf "$room"' EXIT
+
+# run NAME: the proved program, on standard input. Programs are for x86-64; elsewhere the kit's emulator runs them.
+run() {
+    if [ "$(uname -m)" = x86_64 ]; then
+        "$root/target/bin/$1"
+    else
+        kit=$(dirname "$(dirname "$(rt doc)")")
+        tools=$kit/on/$(uname -m)/toolchain
+        "$tools/bin/qemu-x86_64" "$tools/lib/ld-linux-x86-64.so.2" --library-path "$tools/lib" "$root/target/bin/$1"
+    fi
+}
+
+# one NAME: everything that belongs to that example, into $room
+one() {
+    run assemble <"$root/examples/$1.text" >"$room/$1.records"
+    [ -s "$room/$1.records" ] || { echo "examples: $1.text was not assembled" >&2; exit 1; }
+    run pack <"$room/$1.records" >"$room/$1.design"
+    run judge <"$room/$1.design" >"$room/$1.verdict"
+    run show <"$room/$1.design" >"$room/$1.shown"
+}
+
+for program in assemble pack judge show; do
+    [ -x "$root/target/bin/$program" ] || (cd "$root" && mkdir -p target && rt check "$program" >target/examples.log 2>&1) || { echo "examples: could not build $program: see target/examples.log" >&2; exit 2; }
+done
+
+check=${1:-}
+count=0
+status=0
+for text in "$root"/examples/*.text; do
+    name=$(basename "$text" .text)
+    one "$name"
+    count=$((count + 1))
+    for kind in design verdict shown; do
+        if [ "$check" != --check ]; then
+            cp "$room/$name.$kind" "$root/examples/$name.$kind"
+        elif ! cmp -s "$room/$name.$kind" "$root/examples/$name.$kind"; then
+            echo "examples: $name.$kind is not what $name.text makes" >&2
+            status=1
+        fi
+    done
+done
+[ "$status" = 0 ] && echo "examples: $count, as stored"
+exit "$status"
