@@ -1,6 +1,6 @@
 #!/bin/sh
-# Makes, from each example's text, what is stored beside it: NAME.design (the packed file), NAME.verdict (the verdict's line) and NAME.shown
-# (the file as `show` writes it). With --check it changes nothing and says which stored file differs; its status is then 1.
+# Makes, from each example's text, what is stored beside it: NAME.design (the packed file), NAME.verdict (the verdict's line), NAME.shown,
+# NAME.lowered and NAME.listed (the file as `show`, `lower` and `list` write it). With --check it changes nothing and says which stored file differs; its status is then 1.
 set -eu
 root=$(cd "$(dirname "$0")/.." && pwd -P)
 room=$(mktemp -d)
@@ -24,9 +24,11 @@ one() {
     run pack <"$room/$1.records" >"$room/$1.design"
     run judge <"$room/$1.design" >"$room/$1.verdict"
     run show <"$room/$1.design" >"$room/$1.shown"
+    run lower <"$room/$1.design" >"$room/$1.lowered"
+    run list <"$room/$1.design" >"$room/$1.listed"
 }
 
-for program in assemble pack judge show; do
+for program in assemble pack judge show lower list; do
     [ -x "$root/target/bin/$program" ] || (cd "$root" && mkdir -p target && rt check "$program" >target/examples.log 2>&1) || { echo "examples: could not build $program: see target/examples.log" >&2; exit 2; }
 done
 
@@ -37,7 +39,7 @@ for text in "$root"/examples/*.text; do
     name=$(basename "$text" .text)
     one "$name"
     count=$((count + 1))
-    for kind in design verdict shown; do
+    for kind in design verdict shown lowered listed; do
         if [ "$check" != --check ]; then
             cp "$room/$name.$kind" "$root/examples/$name.$kind"
         elif ! cmp -s "$room/$name.$kind" "$root/examples/$name.$kind"; then
