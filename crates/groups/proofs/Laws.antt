@@ -18,15 +18,15 @@ use Rattle.entry.specs.Main.{accepted-exactly, each-stands, the-design}
 use Rattle.entry.specs.Laws.{next-component, all-components}
 use Rattle.reading.specs.Tests.{is-built}
 use Rattle.reader.specs.Rows.{row-in}
-use Rattle.look.specs.Look.{sixteen, look}
+use Rattle.look.specs.Look.{sixteen, look, kind}
 use Rattle.look.proofs.Laws.{sixteen-small}
 use Rattle.verdict.specs.Judgement.{records-of, judgement, Filled}
 use Rattle.verdict.proofs.Whole.{Holds, length-from, looked, right}
 use Rattle.verdict.proofs.Passed.{passed, record-total, said-lawful}
 use Rattle.verdict.proofs.Counts.{count-bounds}
-use Rattle.groups.specs.Groups.{design-of, Opened, Lies, kind, first-number, second-number, past-instances}
+use Rattle.groups.specs.Groups.{design-of, Opened, Lies, first-number, second-number, past-instances}
 use Rattle.groups.proofs.Past.{instances-go-on, instances-stop, instances-end}
-use Rattle.groups.proofs.Bytes.{component-kind, connection-kind, instance-there, invocation-there, kind-is, first-is, second-is}
+use Rattle.look.proofs.Light.{component-kind, connection-kind, instance-there, invocation-there, kind-is, first-is, second-is}
 
 -- A file that has been accepted is open, with the rows that its table was left with.
 module _ (file rows : List ℕ) (numbers : ℕ) (k : Counts) (small : Bytes file) (e : judgement file numbers ≡ accepted k) where

@@ -1,3 +1,2 @@
 pub mod Past
-pub mod Bytes
 pub mod Laws

@@ -7,7 +7,8 @@ use mathlib.Core.Logic.{_≢_}
 use native.Mathlib.Omega.{arith}
 use native.Mathlib.Numerals.{add-one}
 use borrow.Author.Tests.{eq-eqb, ne-eqb}
-use Rattle.groups.specs.Groups.{kind, past-instances}
+use Rattle.look.specs.Look.{kind}
+use Rattle.groups.specs.Groups.{past-instances}
 
 module _ (file : List ℕ) (n i : ℕ) where
   one-more : i < n → n - i ≡ suc (n - (i + 1))

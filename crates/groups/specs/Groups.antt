@@ -4,10 +4,12 @@ use Prim.Native.Nat.{ℕ, zero, suc, _+_, _*_, _/_, _≤_, _<_}
 use mathlib.Core.Bool.{cond}
 use mathlib.Core.Path.{_≡_}
 use mathlib.Core.List.{List}
-use lib.ListN.{length, getD}
+use lib.ListN.{length}
 use lib.Dec.{eqb}
-use Rattle.numbers.specs.Numbers.{number, Bytes}
+use Rattle.numbers.specs.Numbers.{Bytes}
 use Rattle.blocks.specs.File.{record-place}
+use Rattle.look.specs.Look as Look
+use Rattle.look.specs.Look.{kind}
 use Rattle.timeline.specs.Design.{Design}
 use Rattle.timeline.specs.Rules.{Lawful}
 use Rattle.entry.specs.Records.{records}
@@ -34,16 +36,12 @@ pub record Opened (file rows : List ℕ) (n : ℕ) : Type 0 where
 abbrev pub Lies : List ℕ → ℕ → Type 0
 Lies file i = (i < 3968) × (record-place i + 16 ≤ length file)
 
--- "Byte 0 is the kind."
-abbrev pub kind : List ℕ → ℕ → ℕ
-kind file i = getD file (record-place i) 0
-
 -- The numbers in bytes 2–3 and in bytes 4–5 of record i: an instance's component; an invocation's instance and its offset.
 abbrev pub first-number : List ℕ → ℕ → ℕ
-first-number file i = number 2 file (record-place i + 2)
+first-number file i = Look.first-number file i
 
 abbrev pub second-number : List ℕ → ℕ → ℕ
-second-number file i = number 2 file (record-place i + 4)
+second-number file i = Look.second-number file i
 
 -- From record i on, of which so many are left: the first that is no instance.
 unfoldable pub past-instances : List ℕ → (left i : ℕ) → ℕ

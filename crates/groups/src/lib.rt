@@ -2,7 +2,7 @@
 ghost use mathlib.Core.Path.{_≡_};
 ghost use Prim.Native.Nat.{_-_, _*_, _/_, _≤_, _<_};
 ghost use lib.ListN.{length};
-ghost use Rattle.groups.specs.Groups.{Lies, kind, first-number, second-number, past-instances};
+ghost use Rattle.groups.specs.Groups.{Lies, first-number, second-number, past-instances};
 
 // An invocation: the instance that it starts, and when.
 pub struct Call {
@@ -10,19 +10,12 @@ pub struct Call {
     pub offset: u16,
 }
 
-fn kind_at(file: &[u8], i: usize) -> u8
-    requires { ⌜ Lies (now file) i ⌝ }
-    ensures { λ r. ⌜ r ≡ kind (now (file .entry)) i ⌝ }
-{
-    file[look::place_of(i)]
-}
-
 // The component in an instance record.
 pub fn component_at(file: &[u8], i: usize) -> u16
     requires { ⌜ Lies (now file) i ⌝ }
     ensures { λ r. ⌜ r ≡ first-number (now (file .entry)) i ⌝ }
 {
-    numbers::two(file, look::place_of(i) + 2)
+    look::first_number_at(file, i)
 }
 
 // The instance and the offset in an invocation record.
@@ -44,7 +37,7 @@ pub fn past_instances(file: &[u8], i: usize, n: usize) -> usize
 {
     let mut at = i;
     while at < n {
-        if kind_at(file, at) != 3 {
+        if look::kind_at(file, at) != 3 {
             return at;
         }
         at += 1;

@@ -19,3 +19,14 @@ module _ (file : List ℕ) (i : ℕ) where
   look =
       cond (ltb (length file) (record-place i + 16)) (record { start = 0; end = 0; width = 0 })
       (record { start = number 2 file (record-place i + 2); end = number 2 file (record-place i + 4); width = getD file (record-place i + 6) 0 })
+
+  -- "Byte 0 is the kind."
+  abbrev pub kind : ℕ
+  kind = getD file (record-place i) 0
+
+  -- The numbers in bytes 2–3 and in bytes 4–5: an instance's component; an invocation's instance and its offset.
+  abbrev pub first-number : ℕ
+  first-number = number 2 file (record-place i + 2)
+
+  abbrev pub second-number : ℕ
+  second-number = number 2 file (record-place i + 4)

@@ -1,4 +1,4 @@
-// What stands in a file under a record's number: the record, or lightly its port.
+// What stands in a file under a record's number: the record, or lightly its kind, its first number or its port.
 use records::Port;
 use records::Record;
 ghost use mathlib.Core.Path.{_≡_};
@@ -8,7 +8,7 @@ ghost use Rattle.blocks.specs.File.{record-place};
 ghost use Rattle.reading.specs.Reads.{Ranged};
 ghost use Rattle.records.specs.Decoded.{decoded};
 ghost use Rattle.records.specs.Says.{says, port};
-ghost use Rattle.look.specs.Look.{sixteen, look};
+ghost use Rattle.look.specs.Look.{sixteen, look, kind, first-number};
 
 // "31 slots of 16 bytes" after the 8 bytes of a block's head, and 8 bytes behind them.
 pub fn place_of(number: usize) -> usize
@@ -25,6 +25,21 @@ pub fn record_at(file: &[u8], i: usize) -> Record
 {
     let at = place_of(i % 1048576);
     records::decode(&file[at..at + 16])
+}
+
+pub fn kind_at(file: &[u8], i: usize) -> u8
+    requires { ⌜ (i < 1048576) × (record-place i + 16 ≤ length (now file)) ⌝ }
+    ensures { λ r. ⌜ r ≡ kind (now (file .entry)) i ⌝ }
+{
+    file[place_of(i)]
+}
+
+// The component in an instance record, and the instance in an invocation record.
+pub fn first_number_at(file: &[u8], i: usize) -> u16
+    requires { ⌜ (i < 1048576) × (record-place i + 16 ≤ length (now file)) ⌝ }
+    ensures { λ r. ⌜ r ≡ first-number (now (file .entry)) i ⌝ }
+{
+    numbers::two(file, place_of(i) + 2)
 }
 
 // The interval and width that record i says if it is a port.

@@ -1,5 +1,6 @@
 -- Which place of the theory the declared place is: the same, field by field.
 -- Assumes nothing.
+use mathlib.Core.Bool.{false}
 use Rattle.reading.specs.Place as Reading
 use Rattle.order.specs.declared.Place.{Place}
 
@@ -14,3 +15,7 @@ seen s =
       connections = s .connections;
       due = s .due;
     }
+
+-- Before the first record: nothing but a component may stand there.
+abbrev pub closed : Reading.Place
+closed = record { built = false; inputs = 0; outputs = 0; instances = 0; invocations = 0; connections = 1; due = 0 }

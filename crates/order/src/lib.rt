@@ -6,7 +6,7 @@ ghost use lib.Dec.{ltb};
 ghost use Rattle.timeline.specs.Design.{no-port, no-call, constant};
 ghost use Rattle.entry.specs.Records.{input, output, instance, invocation, argument, connection};
 ghost use Rattle.reading.specs.Place.{begun, may, may-end, moved};
-ghost use Rattle.order.specs.Seen.{seen};
+ghost use Rattle.order.specs.Seen.{seen, closed};
 
 pub struct Place {
     pub built: bool,
@@ -31,6 +31,21 @@ pub fn begun(built: bool) -> Place
         instances: 0,
         invocations: 0,
         connections: 0,
+        due: 0,
+    }
+}
+
+// The place before the first record, at which nothing but a component may stand: a leaf with a connection.
+pub fn closed() -> Place
+    ensures { λ r. ⌜ seen r ≡ closed ⌝ }
+{
+    Place {
+        built: false,
+        inputs: 0,
+        outputs: 0,
+        instances: 0,
+        invocations: 0,
+        connections: 1,
         due: 0,
     }
 }

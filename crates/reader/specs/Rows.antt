@@ -14,6 +14,12 @@ row s = record { built = s .built; delay = s .delay; inputs = s .inputs; outputs
 abbrev pub no-row : Row
 no-row = record { built = false; delay = 0; inputs = 0; outputs = 0; first = 0 }
 
+abbrev pub zero-row : Signature
+zero-row = record { built = false; delay = 0; inputs = 0; outputs = 0; first = 0 }
+
+abbrev pub none : ℕ → Row
+none c = no-row
+
 -- The number of a class: 0 leaf, 1 built.
 abbrev pub bit : Bool → ℕ
 bit true = 1

@@ -6,23 +6,21 @@ use records::Port;
 use records::Record;
 use records::Source;
 ghost use mathlib.Core.Path.{_≡_};
-ghost use mathlib.Core.List.{List, []};
-ghost use Prim.Native.Nat.{ℕ, _+_, _-_, _*_, _≤_, _<_};
+ghost use mathlib.Core.List.{[]};
+ghost use Prim.Native.Nat.{_+_, _-_, _*_, _≤_, _<_};
 ghost use lib.ListN.{length};
 ghost use Rattle.timeline.specs.Design.{leaf};
 ghost use Rattle.timeline.specs.Rules.{Source-range};
 ghost use Rattle.entry.specs.Records.{component, part, input, output, instance, invocation, argument, connection};
 ghost use Rattle.reading.specs.Tests.{is-built};
-ghost use Rattle.reading.specs.Place.{begun};
-ghost use Rattle.reading.specs.Reader.{waits, reads, tests, part-tests, source-tests};
+ghost use Rattle.reading.specs.Reader.{reads, tests, part-tests, source-tests};
 ghost use Rattle.reading.specs.Reads.{Ranged};
 ghost use Rattle.records.specs.Says.{says, source, port, class};
-ghost use Rattle.order.specs.Seen.{seen};
 ghost use Rattle.rules.specs.Lowest.{lowest};
 ghost use Rattle.rules.specs.Calls.{no-look};
 ghost use Rattle.look.specs.Look.{look};
-ghost use Rattle.reader.specs.Rows.{bit, row, row-in, put-row};
-ghost use Rattle.reader.specs.State.{state, before, viewed, bare, own-row, opened, Few, Turned, asked, ended};
+ghost use Rattle.reader.specs.Rows.{bit, row, row-in, put-row, none};
+ghost use Rattle.reader.specs.State.{state, fresh, before, begin, viewed, bare, own-row, opened, named, is-component, Few, Turned};
 
 // "One row for each component: class, delay, port counts, first record."
 pub struct Signature {
@@ -167,24 +165,23 @@ fn instance_refusal(r: Reader, c: u16) -> u8
     )
 }
 
-// n: its instance. k: its offset.
+// n: its instance. k: its offset. v: the row of the component that it invokes.
 fn invocation_refusal(
     r: Reader,
     n: u16,
     k: u16,
-    held: &[u16; 160],
+    v: Signature,
     instances: &[u16; 64],
     offsets: &[u16; 64],
 ) -> u8
-    requires { ⌜ (n < 32) × Few r ⌝ }
-    ensures { λ x. ⌜ x ≡ lowest (part-tests no-look (viewed [] (state r (now (held .entry)) (now (instances .entry)) (now (offsets .entry)) [] [])) (invocation (record { instance = n; offset = k }))) ⌝ }
+    requires { ⌜ Few r ⌝ }
+    ensures { λ x. ⌜ x ≡ lowest (part-tests no-look (viewed none (state r (λ m. row v) (now (instances .entry)) (now (offsets .entry)) [] [])) (invocation (record { instance = n; offset = k }))) ⌝ }
 {
     let place = r.place;
     let may = place.may_invocation();
     if 64 <= place.invocations {
         return rules::first(may, 5, 6);
     }
-    let w = row_of(held, size(n));
     rules::first(
         may,
         5,
@@ -196,7 +193,7 @@ fn invocation_refusal(
             place.invocations,
             n,
             k,
-            w.delay,
+            v.delay,
         ),
     )
 }
@@ -214,7 +211,7 @@ fn source_refusal(
     firsts: &[u32; 64],
 ) -> u8
     requires { ⌜ (Source-range (source x)) × Few r ⌝ }
-    ensures { λ n. ⌜ n ≡ lowest (source-tests (look (now (file .entry))) (viewed [] (state r [] [] (now (offsets .entry)) (now (outputs .entry)) (now (firsts .entry)))) before (source x) (port q) k) ⌝ }
+    ensures { λ n. ⌜ n ≡ lowest (source-tests (look (now (file .entry))) (viewed none (state r none [] (now (offsets .entry)) (now (outputs .entry)) (now (firsts .entry)))) before (source x) (port q) k) ⌝ }
 {
     match x {
         Source::Own(i) => {
@@ -241,7 +238,7 @@ fn argument_refusal(
     firsts: &[u32; 64],
 ) -> u8
     requires { ⌜ (Source-range (source x)) × Few r × (r .input < 1048576) ⌝ }
-    ensures { λ n. ⌜ n ≡ lowest (part-tests (look (now (file .entry))) (viewed [] (state r [] [] (now (offsets .entry)) (now (outputs .entry)) (now (firsts .entry)))) (argument (source x))) ⌝ }
+    ensures { λ n. ⌜ n ≡ lowest (part-tests (look (now (file .entry))) (viewed none (state r none [] (now (offsets .entry)) (now (outputs .entry)) (now (firsts .entry)))) (argument (source x))) ⌝ }
 {
     let place = r.place;
     // The remainder changes nothing: it tells the compiler how small the number is.
@@ -273,7 +270,7 @@ fn connection_refusal(
     firsts: &[u32; 64],
 ) -> u8
     requires { ⌜ (Source-range (source x)) × Few r ⌝ }
-    ensures { λ n. ⌜ n ≡ lowest (part-tests (look (now (file .entry))) (viewed [] (state r [] [] (now (offsets .entry)) (now (outputs .entry)) (now (firsts .entry)))) (connection (source x))) ⌝ }
+    ensures { λ n. ⌜ n ≡ lowest (part-tests (look (now (file .entry))) (viewed none (state r none [] (now (offsets .entry)) (now (outputs .entry)) (now (firsts .entry)))) (connection (source x))) ⌝ }
 {
     let place = r.place;
     let q = look::port_at(file, r.first + 1 + place.inputs + place.connections);
@@ -294,58 +291,43 @@ fn connection_refusal(
     )
 }
 
-// The number of the refusal that the first record meets with, before which there is no component; 0 for none.
-pub fn first_refusal(x: Record) -> u8
-    ensures { λ n. ⌜ n ≡ lowest (tests no-look waits (says x)) ⌝ }
+// The instance that a record names, 0 for none.
+pub fn named(x: Record) -> usize
+    requires { ⌜ Ranged (says x) ⌝ }
+    ensures { λ n. ⌜ (n ≡ named (says x)) × (n < 32) ⌝ }
 {
     match x {
         Record::Component(_, _) => 0,
-        Record::Input(_) => 5,
-        Record::Output(_) => 5,
-        Record::Instance(_) => 5,
-        Record::Invocation(_, _) => 5,
-        Record::Argument(_) => 5,
-        Record::Connection(_) => 5,
-        Record::Wrong => 4,
+        Record::Input(_) => 0,
+        Record::Output(_) => 0,
+        Record::Instance(_) => 0,
+        Record::Invocation(n, _) => size(n),
+        Record::Argument(_) => 0,
+        Record::Connection(_) => 0,
+        Record::Wrong => 0,
     }
 }
 
-// The component of the table that a record asks for, 64 for none.
-pub fn asked(x: Record) -> usize
-    ensures { λ c. ⌜ c ≡ asked (says x) ⌝ }
+// Whether a component begins, and so the one before ends.
+pub fn is_component(x: Record) -> bool
+    ensures { λ b. ⌜ b ≡ is-component (says x) ⌝ }
 {
     match x {
-        Record::Component(_, _) => 64,
-        Record::Input(_) => 64,
-        Record::Output(_) => 64,
-        Record::Instance(c) => size(c),
-        Record::Invocation(_, _) => 64,
-        Record::Argument(_) => 64,
-        Record::Connection(_) => 64,
-        Record::Wrong => 64,
-    }
-}
-
-// The component that a record ends, the one that has been read, 64 for none.
-pub fn ended(r: Reader, x: Record) -> usize
-    ensures { λ c. ⌜ c ≡ ended (r .number) (says x) ⌝ }
-{
-    match x {
-        Record::Component(_, _) => r.number,
-        Record::Input(_) => 64,
-        Record::Output(_) => 64,
-        Record::Instance(_) => 64,
-        Record::Invocation(_, _) => 64,
-        Record::Argument(_) => 64,
-        Record::Connection(_) => 64,
-        Record::Wrong => 64,
+        Record::Component(_, _) => true,
+        Record::Input(_) => false,
+        Record::Output(_) => false,
+        Record::Instance(_) => false,
+        Record::Invocation(_, _) => false,
+        Record::Argument(_) => false,
+        Record::Connection(_) => false,
+        Record::Wrong => false,
     }
 }
 
 // The row of the component that has been read.
 pub fn own_row(r: Reader) -> Signature
     requires { ⌜ Few r ⌝ }
-    ensures { λ w. ⌜ row w ≡ own-row (state r [] [] [] [] []) ⌝ }
+    ensures { λ w. ⌜ row w ≡ own-row (fresh r) ⌝ }
 {
     let place = r.place;
     Signature {
@@ -373,7 +355,7 @@ fn moved(r: Reader, place: Place) -> Reader
 
 // A component begins.
 fn begin(k: Class, delay: u16, first: u16, number: usize) -> Reader
-    ensures { λ q. ⌜ (seen (q .place) ≡ begun (is-built (class k))) × (q .delay ≡ delay) × (q .first ≡ first) × (q .number ≡ number) × (q .input ≡ 0) × (q .offset ≡ 0) ⌝ }
+    ensures { λ q. ⌜ fresh q ≡ begin (class k) delay first number ⌝ }
 {
     let built = is_built(k);
     Reader {
@@ -398,29 +380,23 @@ fn answered(refusal: u8, reader: Reader) -> Outcome
     Outcome { refusal, reader }
 }
 
-// Record number p. The row that an instance record asks for is put into `held` by the caller.
+// Record number p. v: the row of the instance that it names. A component record is looked at only for its refusal.
 pub fn turn(
     file: &[u8],
     r: Reader,
     x: Record,
     p: u16,
-    held: &[u16; 160],
+    v: Signature,
     instances: &mut [u16; 64],
     offsets: &mut [u16; 64],
     outputs: &mut [u16; 64],
     firsts: &mut [u32; 64],
 ) -> Outcome
     requires { ⌜ Ranged (says x) × Few r × (r .input ≤ 65536 + p) ⌝ }
-    ensures { λ t. ⌜ Turned (look (now (file .entry))) (state r (now (held .entry)) (now (instances .entry)) (now (offsets .entry)) (now (outputs .entry)) (now (firsts .entry))) p (says x) (t .refusal) (state (t .reader) (now (held .entry)) (now (instances .exit)) (now (offsets .exit)) (now (outputs .exit)) (now (firsts .exit))) ⌝ }
+    ensures { λ t. ⌜ Turned (look (now (file .entry))) (state r (λ m. row v) (now (instances .entry)) (now (offsets .entry)) (now (outputs .entry)) (now (firsts .entry))) p (says x) (t .refusal) (state (t .reader) (λ m. row v) (now (instances .exit)) (now (offsets .exit)) (now (outputs .exit)) (now (firsts .exit))) ⌝ }
 {
     match x {
-        Record::Component(k, d) => {
-            let no = component_refusal(r);
-            if no != 0 {
-                return answered(no, r);
-            }
-            answered(0, begin(k, d, p, r.number + 1))
-        }
+        Record::Component(_, _) => answered(component_refusal(r), r),
         Record::Input(q) => {
             let no = input_refusal(r, q);
             if no != 0 {
@@ -446,12 +422,11 @@ pub fn turn(
             answered(0, moved(r, place.instance()))
         }
         Record::Invocation(n, k) => {
-            let no = invocation_refusal(r, n, k, held, instances, offsets);
+            let no = invocation_refusal(r, n, k, v, instances, offsets);
             if no != 0 {
                 return answered(no, r);
             }
             let place = r.place;
-            let v = row_of(held, size(n));
             let j = place.invocations;
             instances[j] = n;
             offsets[j] = k;
@@ -502,10 +477,10 @@ pub fn turn(
 
 // What is kept before the first record.
 pub fn start() -> Reader
-    ensures { λ q. ⌜ ((h i o u f : List ℕ) → state q h i o u f ≡ before h i o u f) ⌝ }
+    ensures { λ q. ⌜ fresh q ≡ before ⌝ }
 {
     Reader {
-        place: order::begun(false),
+        place: order::closed(),
         delay: 0,
         number: 0,
         first: 0,
@@ -514,18 +489,18 @@ pub fn start() -> Reader
     }
 }
 
-// What is kept after the first record.
-pub fn opened(x: Record) -> Reader
-    ensures { λ q. ⌜ ((h i o u f : List ℕ) → state q h i o u f ≡ opened (state q h i o u f) (says x)) × (q .input ≡ 0) ⌝ }
+// What is kept after component record p, which begins component c.
+pub fn opened(x: Record, p: u16, c: usize) -> Reader
+    ensures { λ q. ⌜ fresh q ≡ opened (says x) p c ⌝ }
 {
     match x {
-        Record::Component(k, d) => begin(k, d, 0, 0),
-        Record::Input(_) => begin(Class::Leaf, 0, 0, 0),
-        Record::Output(_) => begin(Class::Leaf, 0, 0, 0),
-        Record::Instance(_) => begin(Class::Leaf, 0, 0, 0),
-        Record::Invocation(_, _) => begin(Class::Leaf, 0, 0, 0),
-        Record::Argument(_) => begin(Class::Leaf, 0, 0, 0),
-        Record::Connection(_) => begin(Class::Leaf, 0, 0, 0),
-        Record::Wrong => begin(Class::Leaf, 0, 0, 0),
+        Record::Component(k, d) => begin(k, d, p, c),
+        Record::Input(_) => begin(Class::Leaf, 0, p, c),
+        Record::Output(_) => begin(Class::Leaf, 0, p, c),
+        Record::Instance(_) => begin(Class::Leaf, 0, p, c),
+        Record::Invocation(_, _) => begin(Class::Leaf, 0, p, c),
+        Record::Argument(_) => begin(Class::Leaf, 0, p, c),
+        Record::Connection(_) => begin(Class::Leaf, 0, p, c),
+        Record::Wrong => begin(Class::Leaf, 0, p, c),
     }
 }

@@ -1,152 +1,157 @@
--- The invariant of the loop, "what is left gives the whole", and how each record carries it on.
+-- The invariant of the loop over the components, and how each of them carries it on: the table shows the rows of the components before.
 -- Assumes nothing.
-use Prim.Native.Nat.{ℕ, zero, suc, _+_, _*_, _≤_, _<_}
-use mathlib.Core.Bool.{true, false}
+use Prim.Native.Nat.{ℕ, zero, suc, _+_, _-_, _≤_, _<_}
+use mathlib.Core.Bool.{Bool, true, false, cond}
 use mathlib.Core.Path.{_≡_, refl, sym, ap, _∙_, subst}
-use mathlib.Core.List.{List, []}
+use mathlib.Core.List.{List, [], _∷_}
 use mathlib.Core.Logic.{_≢_}
 use native.Mathlib.Omega.{arith}
 use native.Mathlib.Decide.{ℕ-discrete}
-use lib.ListN.{length}
-use borrow.Author.Tests.{lt-ltb, eq-eqb, ne-eqb}
-use Rattle.timeline.specs.Design.{component}
+use lib.ListN.{length, getD, take}
+use lib.Seq.{getD-take}
+use lib.Dec.{eqb}
+use borrow.Author.Tests.{eq-eqb, ne-eqb}
+use Rattle.timeline.specs.Design as Design
+use Rattle.answers.specs.Answer.{Answer, Counts}
 use Rattle.entry.specs.Numbers.{component-number}
-use Rattle.entry.specs.Records.{Record}
 use Rattle.entry.specs.Entered.{design}
-use Rattle.entry.specs.Answers.{Answer, accepted, refused}
-use Rattle.reading.specs.Place.{may-end}
-use Rattle.reading.specs.Reader as Reading
-use Rattle.reading.specs.Reader.{Row, tests}
-use Rattle.reading.specs.Reads.{Ranged}
-use Rattle.reading.specs.Changed.{changed}
+use Rattle.entry.specs.Answers.{accepted, refused}
+use Rattle.entry.specs.Main.{accepted-exactly, the-design}
+use Rattle.reading.specs.Changed.{changed, changed-there, changed-below}
+use Rattle.reading.specs.Reader.{Row}
 use Rattle.reading.specs.Table.{Table-of, Row-of, table}
-use Rattle.rules.specs.Lowest.{lowest}
-use Rattle.rules.specs.Calls.{no-look}
-use Rattle.records.specs.Decoded.{decoded}
-use Rattle.look.specs.Look.{sixteen, look}
-use Rattle.reader.specs.declared.Reader.{Reader}
-use Rattle.reader.specs.Rows.{row-in, put-row}
-use Rattle.reader.specs.State.{State, state, viewed, opened, own-row, Few}
-use Rattle.verdict.specs.Judgement.{records-of}
-use Rattle.verdict.specs.Run.{Run, waits, reads, after, view, next, stored, Own, Fit, empty, rest, last}
-use Rattle.verdict.proofs.Rows.{row-there, row-elsewhere}
-use Rattle.verdict.proofs.Turns.{rows-unseen, ports-unseen, stops, goes, leads, range, owns, first-next, after-some, ends-whole, ends-short, ends-there}
+use Rattle.reader.specs.declared.Signature.{Signature}
+use Rattle.reader.specs.Rows.{row, row-in, none, zero-row}
+use Rattle.reader.specs.State.{fresh, before, own-row}
+use Rattle.verdict.specs.declared.Progress.{Progress}
+use Rattle.verdict.specs.declared.Ended.{Ended}
+use Rattle.verdict.specs.Judgement.{records-of, counts, Filled}
+use Rattle.verdict.specs.Run.{Run, waits, view, rest, Onward}
+use Rattle.verdict.specs.Ahead.{ahead}
+use Rattle.verdict.specs.Component.{Begun, Begins, with-row, run, Holds-rows, Goes, Stops, Read}
+use Rattle.verdict.proofs.Turns.{stay, further}
+use Rattle.verdict.proofs.Whole.{Holds, whole, rows-right}
 
--- rows₀: the table at first. i: so many records met with no refusal.
-pub record Reached (file : List ℕ) (n : ℕ) (rows₀ rows : List ℕ) (s : State) (i : ℕ) : Type 0 where
-  pub below : i ≤ n
-  pub fit : Fit rows s
-  pub input : s .input-record ≤ 65536 + i
-  pub answer : rest file n (after i rows s) i ≡ rest file n (waits rows₀ empty) 0
-  pub leads-to : last file n (after i rows s) i ≡ last file n (waits rows₀ empty) 0
-  pub long : length rows ≡ length rows₀
+take-short : (k : ℕ) (l : List ℕ) → length (take k l) ≤ k
+take-short zero l = omega arith
+take-short (suc k) [] = omega arith
+take-short (suc k) (x ∷ l) = let y = take-short k l in omega arith
 
-pub reached-first : (file : List ℕ) (n : ℕ) (rows : List ℕ) (s : State) → s ≡ empty → 320 ≤ length rows → Reached file n rows rows s 0
-reached-first file n rows s e l =
-    rw e
-    (record {
-      below = omega arith;
-      fit = record { table = l; held = refl; instances = refl; offsets = refl; outputs = refl; output-records = refl; number = omega arith; few-inputs = omega arith; few-outputs = omega arith; few-connections = omega arith; small-delay = omega arith; small-first = omega arith; small-offset = omega arith };
-      input = omega arith;
-      answer = refl;
-      leads-to = refl;
-      long = refl;
-    })
+module _ (file : List ℕ) (n : ℕ) where
+  -- The table shows f.
+  pub record Going (f : ℕ → Row) (q : Progress) : Type 0 where
+    pub within : q .at ≤ n
+    pub begins : Begins q
+    pub rows : ℕ → Row
+    pub shows : (c : ℕ) → c < q .count - 1 → f c ≡ rows c
+    pub onward : Onward file n waits 0 (run rows q) (q .at)
 
-pub few-of : (rows : List ℕ) (r : Reader) (h i o u f : List ℕ) → Fit rows (state r h i o u f) → Few r
-few-of rows r h i o u f w = record { number = w .number; inputs = w .few-inputs; outputs = w .few-outputs; connections = w .few-connections; delay = w .small-delay; first = w .small-first; offset = w .small-offset }
+  pub record Done (f : ℕ → Row) (q : Progress) : Type 0 where
+    pub range : q .refusal ≢ 0 → (4 ≤ q .refusal) × (q .refusal ≤ 12)
+    pub answer : rest file n waits 0 ≡ cond (eqb (q .refusal) 0) (accepted (q .count) (q .at)) (refused (q .refusal) (q .at))
+    pub filled : q .refusal ≡ 0 → (q .at ≡ n) × Table-of (design (records-of file n)) f
 
-pub positive : (i : ℕ) → i ≢ 0 → 0 < i
-positive zero d = absurd (d refl)
-positive (suc i) d = omega arith
+  abbrev pub Reached : (goes : Bool) → (ℕ → Row) → Progress → Type 0
+  Reached true f q = Going f q
+  Reached false f q = Done f q
 
-module _ (file : List ℕ) (n : ℕ) (rows₀ rows : List ℕ) (x : Record) where
-  -- The first record.
-  module _ (r : Reader) (h i o u f : List ℕ) (at : Reached file n rows₀ rows (state r h i o u f) 0) (l : 0 < n) (is : decoded (sixteen file 0) ≡ x) (m : ℕ) (t : m ≡ lowest (tests no-look Reading.waits x)) where
-    seen-first : m ≡ lowest (tests (look file) Reading.waits x)
-    seen-first = t ∙ ap lowest (ports-unseen (look file) x)
+  pub reached-first : (f : ℕ → Row) (q : Progress) → fresh (q .reader) ≡ before → q .at ≡ 0 → q .count ≡ 0 → q .goes ≡ true → Reached (q .goes) f q
+  reached-first f q e a c g =
+      subst (λ (b : Bool). Reached b f q) (sym g)
+      (record {
+        within = omega arith;
+        begins = subst (λ (m : ℕ). Begun m (q .count) (fresh (q .reader))) (sym a) (c, e);
+        rows = none;
+        shows = λ m l. absurd (omega arith);
+        onward = rw a (stay file n waits 0);
+      })
 
-    pub first-stops : m ≢ 0 → refused m 0 ≡ rest file n (waits rows₀ empty) 0
-    first-stops d = sym (stops file n 0 l (waits rows (state r h i o u f)) x is m seen-first d) ∙ at .answer
+  -- What is gathered from the table is what is to be held.
+  pub gathers : (f rows : ℕ → Row) (held : List Signature) (components : List ℕ) (count at number : ℕ) → take count components ≡ ahead file (n - at) at 0 → ((c : ℕ) → c < number → f c ≡ rows c)
+      → ((m : ℕ) → m < count → row (getD held m zero-row) ≡ f (getD components m 0)) → (m : ℕ) → m < length (take count components) → m < count → getD (take count components) m 0 < number → row (getD held m zero-row) ≡ rows (getD (take count components) m 0)
+  gathers f rows held components count at number e s g m b l k =
+      let y : getD (take count components) m 0 ≡ getD components m 0 = getD-take count components m 0 l in
+      g m l ∙ ap f (sym y) ∙ s (getD (take count components) m 0) k
 
-    pub first-range : m ≢ 0 → (4 ≤ m) × (m ≤ 12)
-    first-range d = range file n 0 l (waits rows (state r h i o u f)) x is m seen-first d
+  -- How much is left.
+  abbrev pub left : (goes : Bool) → (at : ℕ) → ℕ
+  left true at = suc (n - at)
+  left false at = 0
 
-    pub first-more : m ≡ 0 → Ranged x → (q : Reader) → state q h i o u f ≡ opened (state q h i o u f) x → q .input ≡ 0 → Reached file n rows₀ rows (state q h i o u f) 1
-    first-more z a q e b =
-        let s = waits rows (state r h i o u f) in
-        let k : reads rows (state q h i o u f) ≡ next (waits rows (state r h i o u f)) 0 x = first-next rows r q h i o u f x m t z e in
-        let w : Own (reads rows (state q h i o u f)) = subst (λ (y : Run). Own y) (sym k) (owns file n 0 l s x is m seen-first z (omega arith) a (at .fit)) in
-        record {
-          below = omega arith;
-          fit = w;
-          input = omega arith;
-          answer = ap (λ (y : Run). rest file n y 1) k ∙ sym (goes file n 0 l s x is m seen-first z) ∙ at .answer;
-          leads-to = ap (λ (y : Run). last file n y 1) k ∙ sym (leads file n 0 l s x is m seen-first) ∙ at .leads-to;
-          long = at .long;
-        }
+  -- One component more. f′: what the table then shows.
+  module _ (few : Holds file n) (f : ℕ → Row) (q : Progress) (here : Going f q) (held : List Signature) (components : List ℕ) (count : ℕ) (asked : take count components ≡ ahead file (n - q .at) (q .at) 0)
+      (holds : (m : ℕ) → m < count → row (getD held m zero-row) ≡ f (getD components m 0)) (e : Ended) (place : e .place ≡ q .count - 1)
+      (read : (rows : ℕ → Row) → Holds-rows file n rows (q .at) (q .count - 1) held → Read file n (e .progress .goes) rows q e) where
+    done : Read file n (e .progress .goes) (here .rows) q e
+    done =
+        read (here .rows)
+        (subst (λ (all : List ℕ). (m : ℕ) → m < length all → getD all m 0 < q .count - 1 → row (getD held m zero-row) ≡ here .rows (getD all m 0)) asked
+        (λ m b k. gathers f (here .rows) held components count (q .at) (q .count - 1) asked (here .shows) holds m b (let y = take-short count components in omega arith) k))
 
-  -- A later one.
-  module _ (s : State) (p : ℕ) (at : Reached file n rows₀ rows s p) (some : 0 < p) (l : p < n) (is : decoded (sixteen file p) ≡ x) (m : ℕ) (t : m ≡ lowest (tests (look file) (Reading.reads (viewed [] s)) x)) where
-    seen-later : m ≡ lowest (tests (look file) (Reading.reads (viewed rows s)) x)
-    seen-later = t ∙ ap lowest (rows-unseen (look file) rows s x)
+    pub less : left (e .progress .goes) (e .progress .at) < suc (n - q .at)
+    less = go (e .progress .goes) done
+      where
+        go : (b : Bool) → Read file n b (here .rows) q e → left b (e .progress .at) < suc (n - q .at)
+        go true r = let l = r .later in let m = r .within in omega arith
+        go false r = omega arith
 
-    from-here : rest file n (reads rows s) p ≡ rest file n (waits rows₀ empty) 0
-    from-here = ap (λ (y : Run). rest file n y p) (sym (after-some p rows s some)) ∙ at .answer
+    module _ (f′ : ℕ → Row) (stored : (c : ℕ) → f′ c ≡ changed f (e .place) (row (e .row)) c) where
+      new : f′ (e .place) ≡ row (e .row)
+      new = stored (e .place) ∙ changed-there f (e .place) (row (e .row))
 
-    pub later-stops : m ≢ 0 → refused m p ≡ rest file n (waits rows₀ empty) 0
-    later-stops d = sym (stops file n p l (reads rows s) x is m seen-later d) ∙ from-here
+      old : (c : ℕ) → c < e .place → f′ c ≡ here .rows c
+      old c l = stored c ∙ changed-below f (e .place) (row (e .row)) c l ∙ here .shows c (omega arith)
 
-    pub later-range : m ≢ 0 → (4 ≤ m) × (m ≤ 12)
-    later-range d = range file n p l (reads rows s) x is m seen-later d
+      -- Up to the place.
+      same : (c : ℕ) → c < e .place + 1 → f′ c ≡ changed (here .rows) (e .place) (row (e .row)) c
+      same c l = go (ℕ-discrete c (e .place))
+        where
+          go : Dec (c ≡ e .place) → f′ c ≡ changed (here .rows) (e .place) (row (e .row)) c
+          go (yes z) = rw z (new ∙ sym (changed-there (here .rows) (e .place) (row (e .row))))
+          go (no z) = let y : c < e .place = omega arith in old c y ∙ sym (changed-below (here .rows) (e .place) (row (e .row)) c y)
 
-    pub later-more : m ≡ 0 → p < 65536 → Ranged x → (rows′ : List ℕ) (s′ : State) → reads rows′ s′ ≡ next (reads rows s) p x → s′ .input-record ≤ 65536 + (p + 1) → length rows′ ≡ length rows → Reached file n rows₀ rows′ s′ (p + 1)
-    later-more z small a rows′ s′ k b g =
-        let w : Own (reads rows′ s′) = subst (λ (y : Run). Own y) (sym k) (owns file n p l (reads rows s) x is m seen-later z small a (at .fit)) in
-        let y : after (p + 1) rows′ s′ ≡ next (reads rows s) p x = after-some (p + 1) rows′ s′ (omega arith) ∙ k in
-        record {
-          below = omega arith;
-          fit = w;
-          input = b;
-          answer = ap (λ (y : Run). rest file n y (p + 1)) y ∙ sym (goes file n p l (reads rows s) x is m seen-later z) ∙ from-here;
-          leads-to = ap (λ (y : Run). last file n y (p + 1)) y ∙ sym (leads file n p l (reads rows s) x is m seen-later) ∙ (ap (λ (y : Run). last file n y p) (sym (after-some p rows s some)) ∙ at .leads-to);
-          long = g ∙ at .long;
-        }
+      goes : Goes file n (here .rows) q e → Going f′ (e .progress)
+      goes r = record { within = r .within; begins = r .begins; rows = with-row (q .count) (here .rows) (row (e .row)); shows = λ c l. shown (q .count) refl c (let y = r .count in omega arith); onward = further file n (here .onward) (r .onward) }
+        where
+          shown : (k : ℕ) → q .count ≡ k → (c : ℕ) → c < q .count → f′ c ≡ with-row k (here .rows) (row (e .row)) c
+          shown zero y c l = absurd (omega arith)
+          shown (suc k) y c l = let z : e .place ≡ k = omega arith in same c (omega arith) ∙ ap (λ (p : ℕ). changed (here .rows) p (row (e .row)) c) z
 
--- The table with a row stored, as a function.
-row-stored : (rows : List ℕ) (n : ℕ) (w : Row) → 5 * n + 5 ≤ length rows → (c : ℕ) → row-in (put-row rows n w) c ≡ changed (λ b. row-in rows b) n w c
-unfolding changed
-row-stored rows n w f c = go (ℕ-discrete c n)
+      stops : Stops file n (here .rows) q e → Done f′ (e .progress)
+      stops r = record { range = r .range; answer = here .onward .answer ∙ by-number (ℕ-discrete (e .progress .refusal) 0); filled = λ z. ((r .whole z) .0, rows-there z) }
+        where
+          by-number : Dec (e .progress .refusal ≡ 0) → rest file n (run (here .rows) q) (q .at) ≡ cond (eqb (e .progress .refusal) 0) (accepted (e .progress .count) (e .progress .at)) (refused (e .progress .refusal) (e .progress .at))
+          by-number (yes z) = rw (eq-eqb (e .progress .refusal) 0 z) (r .accepts z)
+          by-number (no d) = rw (ne-eqb (e .progress .refusal) 0 d) (r .refuses d)
+
+          accepts : (z : e .progress .refusal ≡ 0) → rest file n waits 0 ≡ accepted (e .progress .count) (e .progress .at)
+          accepts z = here .onward .answer ∙ r .accepts z
+
+          -- As many components as rows.
+          total : (z : e .progress .refusal ≡ 0) → length (design (records-of file n)) ≡ e .place + 1
+          total z =
+              let h = (accepted-exactly (records-of file n) (e .progress .count) (e .progress .at)) .0 (whole file n few ∙ accepts z) in
+              ap length (ap design (sym (h .2)) ∙ the-design (h .0) (h .1 .whole)) ∙ h .3 ∙ (r .whole z) .1
+
+          rows-there : e .progress .refusal ≡ 0 → Table-of (design (records-of file n)) f′
+          rows-there z c l =
+              let w = (r .whole z) .2 in
+              let t = subst (λ (a : Run). Table-of (design (records-of file n)) (table (view a))) (here .onward .leads ∙ w .leads) (rows-right file n few (e .progress .count) (e .progress .at) (accepts z)) in
+              let y = total z in
+              let g : changed (here .rows) (w .final .number) (own-row (w .final)) c ≡ f′ c = ap (λ (p : ℕ). changed (here .rows) p (own-row (w .final)) c) (w .number) ∙ ap (λ (v : Row). changed (here .rows) (e .place) v c) (w .row) ∙ sym (same c (omega arith)) in
+              subst (λ (v : Row). Row-of (Design.component (design (records-of file n)) c) (component-number (design (records-of file n)) c) v) g (t c l)
+
+      pub reached-next : Reached (e .progress .goes) f′ (e .progress)
+      reached-next = go (e .progress .goes) done
+        where
+          go : (b : Bool) → Read file n b (here .rows) q e → Reached b f′ (e .progress)
+          go true r = goes r
+          go false r = stops r
+
+-- What the table of an accepted file is left with.
+pub filled-done : (file l : List ℕ) (n : ℕ) (q : Progress) → Done file n (λ c. row-in l c) q → (a : Answer Counts) → a ≡ counts (cond (eqb (q .refusal) 0) (accepted (q .count) (q .at)) (refused (q .refusal) (q .at))) → Filled a file l
+filled-done file l n q d a e = go (ℕ-discrete (q .refusal) 0)
   where
-    go : Dec (c ≡ n) → row-in (put-row rows n w) c ≡ changed (λ b. row-in rows b) n w c
-    go (yes e) = rw (e, eq-eqb n n refl) (row-there rows n w f)
-    go (no d) = rw (ne-eqb c n d) (row-elsewhere rows n w c d)
-
--- The end.
-module _ (file : List ℕ) (n : ℕ) (rows₀ rows : List ℕ) (s : State) (i : ℕ) (at : Reached file n rows₀ rows s i) (l : n ≤ i) (some : 0 < n) where
-  done : i ≡ n
-  done = let b = at .below in omega arith
-
-  read-all : after i rows s ≡ reads rows s
-  read-all = after-some i rows s (omega arith)
-
-  here : rest file n (reads rows s) i ≡ rest file n (waits rows₀ empty) 0
-  here = ap (λ (y : Run). rest file n y i) (sym read-all) ∙ at .answer
-
-  pub end-short : may-end (s .place) ≡ false → refused 5 n ≡ rest file n (waits rows₀ empty) 0
-  end-short e = ap (λ (k : ℕ). refused 5 k) (sym done) ∙ sym (ends-short file n i l rows s e) ∙ here
-
-  pub end-whole : may-end (s .place) ≡ true → accepted (s .number + 1) n ≡ rest file n (waits rows₀ empty) 0
-  end-whole e = ap (λ (k : ℕ). accepted (s .number + 1) k) (sym done) ∙ sym (ends-whole file n i l rows s e) ∙ here
-
-  end-last : last file n (waits rows₀ empty) 0 ≡ reads rows s
-  end-last = sym (at .leads-to) ∙ ap (λ (y : Run). last file n y i) read-all ∙ ends-there file n i l rows s
-
-  -- The row of the last component stored, the table has every row.
-  pub end-table : Table-of (design (records-of file n)) (table (view (last file n (waits rows₀ empty) 0))) → (rows′ : List ℕ) → rows′ ≡ stored rows (s .number) (own-row s) → Table-of (design (records-of file n)) (λ c. row-in rows′ c)
-  end-table h rows′ e c b =
-      let w = at .fit .table in
-      let k = at .fit .number in
-      let g : rows′ ≡ put-row rows (s .number) (own-row s) = rw (lt-ltb (s .number) 64 k) at e in
-      let y = subst (λ (z : Run). Table-of (design (records-of file n)) (table (view z))) end-last h in
-      subst (λ (z : Row). Row-of (component (design (records-of file n)) c) (component-number (design (records-of file n)) c) z) (sym (ap (λ (z : List ℕ). row-in z c) g ∙ row-stored rows (s .number) (own-row s) (omega arith) c)) (y c b)
+    go : Dec (q .refusal ≡ 0) → Filled a file l
+    go (yes z) = let w = d .filled z in rw (e, eq-eqb (q .refusal) 0 z, w .0) (w .1)
+    go (no z) = rw (e, ne-eqb (q .refusal) 0 z) tt

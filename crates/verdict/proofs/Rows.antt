@@ -1,6 +1,6 @@
 -- A row that is put into a table is there, and the other rows stay.
 -- Assumes nothing.
-use Prim.Native.Nat.{ℕ, _+_, _*_, _≤_, _<_}
+use Prim.Native.Nat.{ℕ, _+_, _*_, _≤_}
 use mathlib.Core.Bool.{Bool, true, false, not}
 use mathlib.Core.Path.{_≡_, refl, _∙_}
 use mathlib.Core.List.{List}
@@ -9,6 +9,9 @@ use native.Mathlib.Omega.{arith}
 use lib.ListN.{length, getD, set, length-set}
 use lib.Seq.{getD-set-same, getD-set-other}
 use lib.Dec.{eqb}
+use native.Mathlib.Decide.{ℕ-discrete}
+use borrow.Author.Tests.{eq-eqb, ne-eqb}
+use Rattle.reading.specs.Changed.{changed}
 use Rattle.reading.specs.Reader.{Row}
 use Rattle.reader.specs.Rows.{bit, row-in, put-row}
 
@@ -89,3 +92,12 @@ module _ (l : List ℕ) (c : ℕ) (w : Row) where
       elsewhere l (5 * c) (bit (w .built)) (w .delay) (w .inputs) (w .outputs) (w .first) (5 * b + k) (λ z. absurd (d (omega arith))) (λ z. absurd (d (omega arith))) (λ z. absurd (d (omega arith))) (λ z. absurd (d (omega arith))) (λ z. absurd (d (omega arith))) in
       let first = elsewhere l (5 * c) (bit (w .built)) (w .delay) (w .inputs) (w .outputs) (w .first) (5 * b) (λ z. absurd (d (omega arith))) (λ z. absurd (d (omega arith))) (λ z. absurd (d (omega arith))) (λ z. absurd (d (omega arith))) (λ z. absurd (d (omega arith))) in
       rw (first, same 1 (omega arith), same 2 (omega arith), same 3 (omega arith), same 4 (omega arith))
+
+-- The table with a row stored, as a function.
+pub row-stored : (rows : List ℕ) (n : ℕ) (w : Row) → 5 * n + 5 ≤ length rows → (c : ℕ) → row-in (put-row rows n w) c ≡ changed (λ b. row-in rows b) n w c
+unfolding changed
+row-stored rows n w f c = go (ℕ-discrete c n)
+  where
+    go : Dec (c ≡ n) → row-in (put-row rows n w) c ≡ changed (λ b. row-in rows b) n w c
+    go (yes e) = rw (e, eq-eqb n n refl) (row-there rows n w f)
+    go (no d) = rw (ne-eqb c n d) (row-elsewhere rows n w c d)

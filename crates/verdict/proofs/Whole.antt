@@ -1,18 +1,17 @@
 -- The records of a file: the loop reads them rightly, so what it answers is the verdict, and its last table has the rows of the design.
 -- Assumes nothing.
-use Prim.Native.Nat.{ℕ, zero, suc, _+_, _*_, _/_, _-_, _≤_, _<_}
+use Prim.Native.Nat.{ℕ, zero, suc, _+_, _*_, _/_, _≤_, _<_}
 use mathlib.Core.Path.{_≡_, refl, sym, ap, _∙_}
-use mathlib.Core.List.{List, [], _∷_, map}
+use mathlib.Core.List.{List, map}
 use native.Mathlib.Omega.{arith}
 use native.Mathlib.Nat.{zero-add, sub-zero}
-use lib.ListN.{length, getD, replicate}
-use Rattle.timeline.specs.Design.{Port}
+use lib.ListN.{length, getD}
 use Rattle.entry.specs.Records.{Record, wrong, part, input, output}
 use Rattle.entry.specs.Numbers.{At}
 use Rattle.entry.specs.Entered.{design}
 use Rattle.entry.specs.Answers.{accepted}
 use Rattle.entry.specs.Verdict.{verdict}
-use Rattle.reading.specs.Reads.{Ranged, Looks, Reads}
+use Rattle.reading.specs.Reads.{Ranged, Reads}
 use Rattle.reading.specs.Table.{Table-of, table}
 use Rattle.reading.specs.Main as Reading
 use Rattle.numbers.specs.Numbers.{Bytes}
@@ -21,7 +20,7 @@ use Rattle.records.specs.Decoded.{decoded}
 use Rattle.look.specs.Look.{sixteen, look}
 use Rattle.look.proofs.Laws.{decoded-ranged, sixteen-small, look-is, input-port, output-port}
 use Rattle.verdict.specs.Judgement.{sixteens, records-of}
-use Rattle.verdict.specs.Run.{Run, waits, view, next, Own, Fit, empty, rest, last}
+use Rattle.verdict.specs.Run.{Run, waits, view, next, Own, rest, last}
 use Rattle.verdict.proofs.Keeps.{own-next}
 
 -- What is known of the bytes: n records stand in them.
@@ -63,13 +62,8 @@ module _ (file : List ℕ) where
           keeps = λ s p x o a t. (let w = looked p x a in let r : Ranged x = rw (w .0) at (decoded-ranged (sixteen file p) (sixteen-small file p (h .small))) in own-next (look file) s p x (w .2) o r t);
         }
 
-    module _ (rows : List ℕ) (long : 320 ≤ length rows) where
-      fits : Fit rows empty
-      fits =
-          record { table = long; held = refl; instances = refl; offsets = refl; outputs = refl; output-records = refl; number = omega arith; few-inputs = omega arith; few-outputs = omega arith; few-connections = omega arith; small-delay = omega arith; small-first = omega arith; small-offset = omega arith }
+    pub whole : verdict (records-of file n) ≡ rest file n waits 0
+    whole = rw (sub-zero n) (Reading.answer-verdict Run view next Own (records-of file n) (look file) right waits refl tt)
 
-      pub whole : verdict (records-of file n) ≡ rest file n (waits rows empty) 0
-      whole = rw (sub-zero n) (Reading.answer-verdict Run view next Own (records-of file n) (look file) right (waits rows empty) refl fits)
-
-      pub rows-right : (c r : ℕ) → rest file n (waits rows empty) 0 ≡ accepted c r → Table-of (design (records-of file n)) (table (view (last file n (waits rows empty) 0)))
-      rows-right c r e = rw (sub-zero n) (Reading.last-table Run view next Own (records-of file n) (look file) right (waits rows empty) refl fits c r (whole ∙ e))
+    pub rows-right : (c r : ℕ) → rest file n waits 0 ≡ accepted c r → Table-of (design (records-of file n)) (table (view (last file n waits 0)))
+    rows-right c r e = rw (sub-zero n) (Reading.last-table Run view next Own (records-of file n) (look file) right waits refl tt c r (whole ∙ e))

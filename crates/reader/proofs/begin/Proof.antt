@@ -1,7 +1,5 @@
 -- `reader::begin` meets its contract. Each field is what the definition gives a component that begins.
 -- Assumes nothing.
-use mathlib.Core.Path.{refl, ap, _∙_}
-use Rattle.reading.specs.Place.{begun}
 use borrow.Author.Needs.{needs}
 use Rattle.reader.proofs.begin.Statement.{statement}
 use Rattle.reader.proofs.begin.Tie as tie
@@ -19,7 +17,7 @@ size-requires-2 : tie.Need-size-requires-2
 size-requires-2 c κs = search needs
 
 returns : tie.Need-returns
-returns c = (c .before .before .begun .ensures ∙ ap begun (c .before .before .before .is-built .ensures), c .before .size .ensures .0, c .size2 .ensures .0, refl, refl, refl)
+returns c = rw (c .before .before .begun .ensures, c .before .before .before .is-built .ensures, c .before .size .ensures .0, c .size2 .ensures .0)
 
 pub begin-spec : {M : Type 1} → statement M
 begin-spec =

@@ -1,6 +1,6 @@
 -- `reader::invocation_refusal` meets its contract. With 64 invocations there is no room for another; below that the tests are those of the theory.
 -- Assumes nothing.
-use mathlib.Core.Path.{ap, _∙_}
+use mathlib.Core.Path.{_∙_}
 use borrow.Author.Tests.{lt-ltb, le-ltb}
 use borrow.Author.Needs.{needs}
 use Rattle.reader.proofs.invocation_refusal.Statement.{statement}
@@ -15,12 +15,6 @@ first-requires c κs = search needs
 returns : tie.Need-returns
 returns c = c .first .ensures ∙ rw (c .before .before .before .may-invocation .ensures, le-ltb _ _ (c .before .if1 .taken))
 
-size-requires : tie.Need-size-requires
-size-requires c κs = search needs
-
-row-of-requires : tie.Need-row-of-requires
-row-of-requires c κs = search needs
-
 half-requires : tie.Need-half-requires
 half-requires c κs = search needs
 
@@ -31,7 +25,7 @@ first-requires-2 : tie.Need-first-requires-2
 first-requires-2 c κs = search needs
 
 returns-2 : tie.Need-returns-2
-returns-2 c = c .first2 .ensures ∙ rw (c .before .before .before .before .before .before .before .before .may-invocation .ensures, c .before .invocation-refusal .ensures, lt-ltb _ _ (c .before .before .before .before .before .before .if1 .left), ap (λ w. w .delay) (c .before .before .before .row-of .ensures), c .before .before .before .before .size .ensures .0, c .before .before .half .ensures)
+returns-2 c = c .first2 .ensures ∙ rw (c .before .before .before .before .before .may-invocation .ensures, c .before .invocation-refusal .ensures, lt-ltb _ _ (c .before .before .before .if1 .left), c .before .before .half .ensures)
 
 pub invocation-refusal-spec : {M : Type 1} → statement M
 invocation-refusal-spec =
@@ -40,8 +34,6 @@ invocation-refusal-spec =
     may-invocation-requires
     first-requires
     returns
-    size-requires
-    row-of-requires
     half-requires
     invocation-refusal-requires
     first-requires-2

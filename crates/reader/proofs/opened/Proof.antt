@@ -1,7 +1,5 @@
 -- `reader::opened` meets its contract. Only a component record begins a component.
 -- Assumes nothing.
-use Rattle.reader.proofs.Kept.{kept-begin}
-use Rattle.timeline.specs.Design.{leaf}
 use borrow.Author.Needs.{needs}
 use Rattle.reader.proofs.opened.Statement.{statement}
 use Rattle.reader.proofs.opened.Tie as tie
@@ -55,36 +53,28 @@ begin-requires-8 : tie.Need-begin-requires-8
 begin-requires-8 c κs = search needs
 
 returns : tie.Need-returns
-returns c = let e = c .begin .ensures in
-    ((λ h i o u f. rw (c .before .before .x .given .1) (kept-begin h i o u f (c .begin .result) (c .begin .result) _ _ _ _ (e .0) (e .1) (e .2) (e .3) (e .4) (e .5))), e .4)
+returns c = rw (c .before .before .x .given .1) (c .begin .ensures)
 
 returns-2 : tie.Need-returns-2
-returns-2 c = let e = c .begin2 .ensures in
-    ((λ h i o u f. rw (c .before .enum-told .given .1) (kept-begin h i o u f (c .begin2 .result) (c .begin2 .result) leaf 0 0 0 (e .0) (e .1) (e .2) (e .3) (e .4) (e .5))), e .4)
+returns-2 c = rw (c .before .enum-told .given .1) (c .begin2 .ensures)
 
 returns-3 : tie.Need-returns-3
-returns-3 c = let e = c .begin3 .ensures in
-    ((λ h i o u f. rw (c .before .enum-told2 .given .1) (kept-begin h i o u f (c .begin3 .result) (c .begin3 .result) leaf 0 0 0 (e .0) (e .1) (e .2) (e .3) (e .4) (e .5))), e .4)
+returns-3 c = rw (c .before .enum-told2 .given .1) (c .begin3 .ensures)
 
 returns-4 : tie.Need-returns-4
-returns-4 c = let e = c .begin4 .ensures in
-    ((λ h i o u f. rw (c .before .enum-told3 .given .1) (kept-begin h i o u f (c .begin4 .result) (c .begin4 .result) leaf 0 0 0 (e .0) (e .1) (e .2) (e .3) (e .4) (e .5))), e .4)
+returns-4 c = rw (c .before .enum-told3 .given .1) (c .begin4 .ensures)
 
 returns-5 : tie.Need-returns-5
-returns-5 c = let e = c .begin5 .ensures in
-    ((λ h i o u f. rw (c .before .enum-told4 .given .1) (kept-begin h i o u f (c .begin5 .result) (c .begin5 .result) leaf 0 0 0 (e .0) (e .1) (e .2) (e .3) (e .4) (e .5))), e .4)
+returns-5 c = rw (c .before .enum-told4 .given .1) (c .begin5 .ensures)
 
 returns-6 : tie.Need-returns-6
-returns-6 c = let e = c .begin6 .ensures in
-    ((λ h i o u f. rw (c .before .enum-told5 .given .1) (kept-begin h i o u f (c .begin6 .result) (c .begin6 .result) leaf 0 0 0 (e .0) (e .1) (e .2) (e .3) (e .4) (e .5))), e .4)
+returns-6 c = rw (c .before .enum-told5 .given .1) (c .begin6 .ensures)
 
 returns-7 : tie.Need-returns-7
-returns-7 c = let e = c .begin7 .ensures in
-    ((λ h i o u f. rw (c .before .enum-told6 .given .1) (kept-begin h i o u f (c .begin7 .result) (c .begin7 .result) leaf 0 0 0 (e .0) (e .1) (e .2) (e .3) (e .4) (e .5))), e .4)
+returns-7 c = rw (c .before .enum-told6 .given .1) (c .begin7 .ensures)
 
 returns-8 : tie.Need-returns-8
-returns-8 c = let e = c .begin8 .ensures in
-    ((λ h i o u f. rw (c .before .enum-told7 .given .1) (kept-begin h i o u f (c .begin8 .result) (c .begin8 .result) leaf 0 0 0 (e .0) (e .1) (e .2) (e .3) (e .4) (e .5))), e .4)
+returns-8 c = rw (c .before .enum-told7 .given .1) (c .begin8 .ensures)
 
 pub opened-spec : {M : Type 1} → statement M
 opened-spec =

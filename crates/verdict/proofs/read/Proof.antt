@@ -38,7 +38,7 @@ returns-2 : tie.Need-returns-2
 unfolding judgement
 returns-2 c = let e = sym (c .before .before .before .before .before .before .before .sound .ensures) ∙ ap counted (c .before .before .before .before .before .n .given .1) in
     let h : Holds (c .before .before .before .before .before .before .before .before .before .before .before .args .file .now) (c .before .before .before .before .before .n .given .0 .0) = record { few = (count-bounds (c .before .before .before .before .before .before .before .before .before .before .before .args .file .now) _ e) .1; within = (count-bounds (c .before .before .before .before .before .before .before .before .before .before .before .args .file .now) _ e) .2; small = λ j l. omega (arith, c .before .before .before .before .before .before .before .before .before .before .shared-slice-known .given j) } in
-    rw (le-ltb _ _ (c .before .before .before .before .before .before .before .before .if1 .left), e) (c .before .before .read-records .ensures .0 ∙ ap counts (sym (whole (c .before .before .before .before .before .before .before .before .before .before .before .args .file .now) (c .before .before .before .before .before .n .given .0 .0) h (c .before .before .before .before .before .before .before .before .before .before .before .args .table .now) (c .before .before .before .before .before .before .before .before .if1 .left))), c .before .before .read-records .ensures .1)
+    rw (le-ltb _ _ (c .before .before .before .before .before .before .before .before .if1 .left), e) (c .before .before .read-records .ensures .0 ∙ ap counts (sym (whole (c .before .before .before .before .before .before .before .before .before .before .before .args .file .now) (c .before .before .before .before .before .n .given .0 .0) h)), c .before .before .read-records .ensures .1)
 
 returns-3 : tie.Need-returns-3
 unfolding judgement

@@ -1,9 +1,9 @@
--- `groups::component_at` meets its contract. Two bytes at the place of the record.
+-- `look::first_number_at` meets its contract. Two bytes at the place of the record.
 -- Assumes nothing.
 use mathlib.Core.Path.{_∙_}
 use borrow.Author.Needs.{needs}
-use Rattle.groups.proofs.component_at.Statement.{statement}
-use Rattle.groups.proofs.component_at.Tie as tie
+use Rattle.look.proofs.first_number_at.Statement.{statement}
+use Rattle.look.proofs.first_number_at.Tie as tie
 
 place-of-requires : tie.Need-place-of-requires
 place-of-requires c κs = search needs
@@ -17,5 +17,5 @@ two-requires c κs = search needs
 returns : tie.Need-returns
 returns c = c .two .ensures ∙ rw (c .before .place-of .ensures)
 
-pub component-at-spec : {M : Type 1} → statement M
-component-at-spec = tie.close (tie.spec place-of-requires add-two two-requires returns)
+pub first-number-at-spec : {M : Type 1} → statement M
+first-number-at-spec = tie.close (tie.spec place-of-requires add-two two-requires returns)

@@ -8,16 +8,14 @@ use native.Mathlib.Omega.{arith}
 use Rattle.numbers.specs.Numbers.{Bytes}
 use Rattle.numbers.proofs.Bytes.{number-bytes}
 use Rattle.blocks.specs.File.{record-place}
-use Rattle.timeline.specs.Design.{Class, Source, Call, component, connection, instance, offset}
+use Rattle.timeline.specs.Design.{Class, Port, Source, Call}
 use Rattle.entry.specs.Records as Records
 use Rattle.entry.specs.Records.{Record, wrong, part}
 use Rattle.records.specs.Decoded.{decoded, byte, word}
 use Rattle.records.specs.Encoded.{encoded}
 use Rattle.records.proofs.Main.{encoded-decoded, decoded-range}
-use Rattle.look.specs.Look.{sixteen}
+use Rattle.look.specs.Look.{sixteen, kind, first-number, second-number}
 use Rattle.look.proofs.Laws.{byte-at}
-use Rattle.verdict.proofs.Whole.{right}
-use Rattle.groups.specs.Groups.{kind, first-number, second-number}
 
 -- The kind and the numbers in the bytes of a record that decodes.
 module _ (l : List ℕ) (small : Bytes l) where
@@ -27,6 +25,14 @@ module _ (l : List ℕ) (small : Bytes l) where
   pub component-kind : (k : Class) (d : ℕ) → decoded l ≡ Records.component k d → byte l 0 ≡ 1
   unfolding encoded
   component-kind k d e = ap (λ (b : List ℕ). byte b 0) (sym (its-bytes (Records.component k d) e (λ w. let z : _≡_ {A = ℕ} 0 1 = cc in omega arith)))
+
+  pub input-kind : (p : Port) → decoded l ≡ part (Records.input p) → byte l 0 ≡ 2
+  unfolding encoded
+  input-kind p e = ap (λ (b : List ℕ). byte b 0) (sym (its-bytes (part (Records.input p)) e (λ w. let z : _≡_ {A = ℕ} 0 1 = cc in omega arith)))
+
+  pub output-kind : (p : Port) → decoded l ≡ part (Records.output p) → byte l 0 ≡ 2
+  unfolding encoded
+  output-kind p e = ap (λ (b : List ℕ). byte b 0) (sym (its-bytes (part (Records.output p)) e (λ w. let z : _≡_ {A = ℕ} 0 1 = cc in omega arith)))
 
   pub connection-kind : (s : Source) → decoded l ≡ part (Records.connection s) → byte l 0 ≡ 6
   unfolding encoded

@@ -1,11 +1,11 @@
--- `groups::kind_at` meets its contract. The byte at the place of the record.
+-- `look::kind_at` meets its contract. The byte at the place of the record.
 -- Assumes nothing.
 use Prim.Native.Nat.{ℕ}
 use mathlib.Core.Path.{ap}
 use lib.ListN.{getD}
 use borrow.Author.Needs.{needs}
-use Rattle.groups.proofs.kind_at.Statement.{statement}
-use Rattle.groups.proofs.kind_at.Tie as tie
+use Rattle.look.proofs.kind_at.Statement.{statement}
+use Rattle.look.proofs.kind_at.Tie as tie
 
 place-of-requires : tie.Need-place-of-requires
 place-of-requires c κs = search needs
