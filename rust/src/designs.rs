@@ -1,5 +1,6 @@
 //! Files to judge: written by hand, drawn by chance, damaged, as large as the limits allow, and hostile.
 
+mod aimed;
 mod chance;
 mod damage;
 mod draft;
@@ -10,6 +11,7 @@ mod looped;
 mod rich;
 mod squaring;
 
+pub use aimed::aimed;
 pub use chance::Chance;
 pub use damage::{damaged, damaged_blocks};
 pub use draft::{Draft, Drawing};
