@@ -108,7 +108,8 @@ pub fn every_call(file: &[u8], chance: &mut Chance, lent: &mut Lent) -> Result<O
     run.list(63, 0, AMPLE)?;
     match verdict {
         Answered::Accepted(records, components) => {
-            let mut asked = vec![0, components - 1, chance.below(components as usize) as u64, components];
+            let mut asked = vec![0, components - 1, components];
+            asked.extend((0..2).map(|_| chance.below(components as usize) as u64));
             asked.push(chance.pick(&[64, 255, 256, 65_536, 1 << 32, u64::MAX]));
             asked.sort_unstable();
             asked.dedup();

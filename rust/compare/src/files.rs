@@ -1,6 +1,6 @@
 //! The files that are compared, each given by its seed alone.
 
-use dansevik::designs::{self, aimed, damaged, damaged_blocks, drawn, seal, Chance, List};
+use dansevik::designs::{self, aimed, damaged, damaged_blocks, drawn, seal, shaped, Chance, Drawing, List, Shape};
 
 /// What a file was drawn as. Most of those that are no lawful design are refused, by far not all.
 #[derive(Clone, Copy, Debug, PartialEq, Eq)]
@@ -20,16 +20,15 @@ pub fn file(seed: u64) -> (Sort, Vec<u8>) {
     let mut chance = Chance::new(seed);
     let chance = &mut chance;
     match chance.below(100) {
-        0..=29 => (Sort::Lawful, lawful(chance).file()),
+        0..=29 => (Sort::Lawful, lawful(chance).list().file()),
         30..=74 => {
             let number = 1 + chance.below(12);
-            let most = most(chance);
-            let drawing = drawn(chance, most);
+            let drawing = lawful(chance);
             (Sort::Aimed, aimed(chance, number, drawing))
         }
         75..=86 => (Sort::Damaged, often_damaged(chance).file()),
         87..=92 => {
-            let file = lawful(chance).file();
+            let file = lawful(chance).list().file();
             (Sort::Blocks, damaged_blocks(chance, file))
         }
         93..=95 => (Sort::Hostile, hostile(chance).file()),
@@ -37,22 +36,19 @@ pub fn file(seed: u64) -> (Sort, Vec<u8>) {
     }
 }
 
-/// Most components of a design: few as a rule, now and then as many as there may be.
-fn most(chance: &mut Chance) -> usize {
-    match chance.below(10) {
-        0 => 64,
-        1 | 2 => 16,
-        _ => 6,
+/// A design of few components as a rule, now and then of as many as there may be, thick or deep.
+fn lawful(chance: &mut Chance) -> Drawing {
+    match chance.below(20) {
+        0 => shaped(chance, 64, &Shape { instances: 12, calls: 40, deep: false }),
+        1 => shaped(chance, 64, &Shape { instances: 3, calls: 4, deep: true }),
+        2 => drawn(chance, 64),
+        3..=6 => drawn(chance, 16),
+        _ => drawn(chance, 6),
     }
 }
 
-fn lawful(chance: &mut Chance) -> List {
-    let most = most(chance);
-    drawn(chance, most).list()
-}
-
 fn often_damaged(chance: &mut Chance) -> List {
-    (0..1 + chance.below(3)).fold(lawful(chance), |list, _| damaged(chance, list))
+    (0..1 + chance.below(3)).fold(lawful(chance).list(), |list, _| damaged(chance, list))
 }
 
 /// A design as large as the limits allow, or a deep one that a listing could get lost in; half of them with a fault.

@@ -226,39 +226,60 @@ fn moved(draft: &mut Draft, new: usize) {
     }
 }
 
-/// A delay one less than the span of an instance, or an invocation one cycle too far from the others.
+/// A delay one less than the span of an instance, or an invocation one cycle too far from the others of its instance.
 fn span(chance: &mut Chance, drawing: &Drawing, draft: &mut Draft) {
     if draft.calls.is_empty() {
         return;
     }
     let call = chance.below(draft.calls.len());
-    let (instance, _) = draft.calls[call];
+    let (instance, k) = draft.calls[call];
     let d = drawing.of(draft, instance).delay;
-    let offsets = || draft.calls.iter().filter(|call| call.0 == instance).map(|call| call.1);
-    let least = offsets().min().unwrap_or(0);
-    let spread = offsets().max().unwrap_or(0) - least + d;
-    if spread > 1 && chance.one_in(2) {
-        draft.delay = spread - 1;
+    let others: Vec<u16> =
+        (0..draft.calls.len()).filter(|j| *j != call && draft.calls[*j].0 == instance).map(|j| draft.calls[j].1).collect();
+    let least = others.iter().copied().min().unwrap_or(k);
+    let greatest = others.iter().copied().max().unwrap_or(k);
+    let past = draft.delay + 1 - d;
+    if !others.is_empty() && least + past < 1024 && chance.one_in(2) {
+        draft.calls[call].1 = least + past;
+    } else if !others.is_empty() && greatest >= past && chance.one_in(2) {
+        draft.calls[call].1 = greatest - past;
     } else {
-        draft.calls[call].1 = (least + draft.delay + 1 - d.min(draft.delay)).min(1023);
+        let spread = greatest.max(k) - least.min(k) + d;
+        shorten(draft, (spread - 1).max(1));
     }
 }
 
-/// An own port or an offset moved by one cycle.
+/// Another delay, and own ports that keep the interval rule.
+fn shorten(draft: &mut Draft, delay: u16) {
+    draft.delay = delay;
+    for port in draft.inputs.iter_mut().chain(&mut draft.outputs) {
+        port.end = port.end.min(port.start + delay);
+    }
+}
+
+/// An own input that is there one cycle less, an own output one cycle more, or an invocation one cycle earlier or later.
 fn reading(chance: &mut Chance, draft: &mut Draft) {
     let call = chance.below(draft.calls.len());
-    match chance.below(4) {
-        0 if !draft.calls.is_empty() => draft.calls[call].1 = (draft.calls[call].1 + 1).min(1023),
-        1 if !draft.calls.is_empty() => draft.calls[call].1 = draft.calls[call].1.saturating_sub(1),
-        n => {
-            let up = n == 2;
-            if let Some(port) = a_port(chance, draft) {
-                if up {
-                    port.end = (port.end + 1).min(1024);
-                } else {
-                    port.start = port.start.saturating_sub(1);
-                }
+    let input = chance.below(draft.inputs.len());
+    let output = chance.below(draft.outputs.len());
+    let early = chance.one_in(2);
+    match chance.below(3) {
+        0 if !draft.inputs.is_empty() => {
+            let port = &mut draft.inputs[input];
+            if port.end - port.start > 1 {
+                port.start += u16::from(early);
+                port.end -= u16::from(!early);
             }
         }
+        1 if !draft.outputs.is_empty() => {
+            let port = &mut draft.outputs[output];
+            port.start -= u16::from(early && port.start > 0);
+            port.end += u16::from(!early && port.end < 1024);
+        }
+        _ if !draft.calls.is_empty() => {
+            let k = &mut draft.calls[call].1;
+            *k = if early { k.saturating_sub(1) } else { (*k + 1).min(1023) };
+        }
+        _ => (),
     }
 }

@@ -6,12 +6,25 @@ use crate::plain::{Class, Port, Source, RECORDS};
 
 const WIDTHS: [u8; 8] = [32, 32, 32, 32, 32, 8, 1, 64];
 
+/// How many instances and invocations a built component mostly has at most, and whether its instances are of the components
+/// right below it.
+pub struct Shape {
+    pub instances: usize,
+    pub calls: usize,
+    pub deep: bool,
+}
+
 /// A lawful design of at most so many components.
 pub fn drawn(chance: &mut Chance, most: usize) -> Drawing {
+    shaped(chance, most, &Shape { instances: 4, calls: 8, deep: false })
+}
+
+/// A lawful design of at most so many components and of this shape.
+pub fn shaped(chance: &mut Chance, most: usize, shape: &Shape) -> Drawing {
     let mut drawing = Drawing::default();
     for _ in 0..1 + chance.below(most) {
-        let leaf = drawing.components.is_empty() && !chance.one_in(20) || chance.one_in(4);
-        let draft = if leaf { leaf_drawn(chance) } else { built_drawn(chance, &drawing) };
+        let leaf = drawing.components.is_empty() && !chance.one_in(20) || chance.one_in(if shape.deep { 16 } else { 4 });
+        let draft = if leaf { leaf_drawn(chance) } else { built_drawn(chance, &drawing, shape) };
         if drawing.records() + draft.records() > RECORDS {
             break;
         }
@@ -54,18 +67,19 @@ fn port(chance: &mut Chance, start: u16, delay: u16) -> Port {
     Port { start, end: start + long, width: chance.pick(&WIDTHS) }
 }
 
-fn built_drawn(chance: &mut Chance, drawing: &Drawing) -> Draft {
+fn built_drawn(chance: &mut Chance, drawing: &Drawing, shape: &Shape) -> Draft {
     let mut draft = Draft::new(Class::Built, 1);
-    for _ in 0..count(chance, 4, 32) {
+    for _ in 0..count(chance, shape.instances, 32).max(usize::from(shape.deep)) {
         if drawing.components.is_empty() {
             break;
         }
-        draft.instances.push(chance.below(drawing.components.len()));
+        let below = drawing.components.len();
+        draft.instances.push(if shape.deep { below - 1 - chance.below(4) / 3 % below } else { chance.below(below) });
     }
     let longest = draft.instances.iter().map(|c| drawing.components[*c].delay).max().unwrap_or(1);
     let delay = usize::from(longest) * (1 + chance.below(4)) + chance.pick(&[0, 0, 1, 5]);
     draft.delay = delay.min(1024) as u16;
-    for _ in 0..count(chance, 8, 64) {
+    for _ in 0..count(chance, shape.calls, 64) {
         call(chance, drawing, &mut draft);
     }
     connect(chance, drawing, &mut draft);
