@@ -3,6 +3,7 @@
 
    Link target/staticlib/libhost.a, which `rt staticlib host` makes: an archive for x86-64 that needs nothing but memcpy and
    memset. The functions keep no state, allocate nothing, and always return; calls that share no memory may run at the same time.
+   On the stack, as measured, dansevik_list takes up to DANSEVIK_STACK_BYTES_MAX, every other call less than 8 KiB.
 
    What to pass
      - Every pointer is non-null, also where its length is 0. The library checks no pointer.
@@ -59,6 +60,9 @@ extern "C" {
 /* The working table has a row for each component that a file may have. A shorter one is refusal 13; of a longer one the rows
    past these are only set to zero. */
 #define DANSEVIK_TABLE_ROWS 64
+
+/* Stack of a call, at most: a listing goes one call down for each invocation that stands before the next component below. */
+#define DANSEVIK_STACK_BYTES_MAX (512 * 1024)
 
 /* ---- Types ---- */
 

@@ -45,9 +45,9 @@ done
 [ "$failed" = 0 ]
 echo "host: C and C++ programs agree with the header and with $(wc -l <crates/cases/data/TABLE) cases"
 
-if ! sh tools/x86 cargo test --quiet --release -p dansevik-host >"$made/host.log" 2>&1; then
+if ! sh tools/x86 cargo test --quiet --release -p dansevik-host -p dansevik-compare >"$made/host.log" 2>&1; then
     tail -n 40 "$made/host.log" >&2
     exit 1
 fi
-echo 'host: the Rust wrapper passes its tests'
+echo 'host: the Rust wrapper passes its tests, within the stack that it says'
 sh tools/x86 cargo run --quiet --release -p dansevik-compare --bin compare -- "$@"

@@ -16,7 +16,7 @@ pub use chance::Chance;
 pub use damage::{damaged, damaged_blocks};
 pub use draft::{Draft, Drawing};
 pub use drawn::{drawn, shaped, Shape};
-pub use hostile::{deep, doubling, empty_levels, hidden, many_rows, many_units, scattered, unused_instances};
+pub use hostile::{deep, doubling, empty_levels, hidden, longest, many_rows, many_units, scattered, unused_instances};
 pub use list::{constant, output_of, own, seal, List};
 pub use looped::looped;
 pub use rich::rich;

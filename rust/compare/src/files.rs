@@ -53,7 +53,7 @@ fn often_damaged(chance: &mut Chance) -> List {
 
 /// A design as large as the limits allow, or a deep one that a listing could get lost in; half of them with a fault.
 fn hostile(chance: &mut Chance) -> List {
-    let list = match chance.below(12) {
+    let list = match chance.below(13) {
         0 => designs::rich(),
         1 => designs::scattered(chance.one_in(2)),
         2 => designs::empty_levels(),
@@ -63,6 +63,7 @@ fn hostile(chance: &mut Chance) -> List {
         7 => designs::many_units(chance.one_in(2)),
         8 => designs::deep(),
         9 => designs::hidden(),
+        10 => designs::longest(),
         _ => widest(chance),
     };
     if chance.one_in(2) {

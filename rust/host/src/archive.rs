@@ -25,25 +25,28 @@ impl Answer {
     }
 }
 
+/// A call that writes rows of a component.
+pub type Rows = unsafe extern "C" fn(*const u8, usize, *mut Signature, usize, u64, *mut u8, usize) -> Answer;
+
 extern "C" {
     pub fn dansevik_judge(file: *const u8, file_bytes: usize, table: *mut Signature, table_length: usize) -> Answer;
     pub fn dansevik_lower(
         file: *const u8,
-        file_bytes: usize,
+        bytes: usize,
         table: *mut Signature,
-        table_length: usize,
+        length: usize,
         component: u64,
         out: *mut u8,
-        out_bytes: usize,
+        room: usize,
     ) -> Answer;
     pub fn dansevik_list(
         file: *const u8,
-        file_bytes: usize,
+        bytes: usize,
         table: *mut Signature,
-        table_length: usize,
+        length: usize,
         component: u64,
         out: *mut u8,
-        out_bytes: usize,
+        room: usize,
     ) -> Answer;
     pub fn dansevik_pack(list: *const u8, list_bytes: usize, out: *mut u8, out_bytes: usize) -> Answer;
     pub fn dansevik_unpack(file: *const u8, file_bytes: usize, out: *mut u8, out_bytes: usize) -> Answer;

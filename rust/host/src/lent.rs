@@ -4,7 +4,7 @@
 //! A slice is never null and aligned as its elements, and a `&mut` overlaps nothing: all that the archive asks of its caller.
 
 use super::answers::{Accepted, Refusal};
-use super::archive::{self, table_length};
+use super::archive::{self, table_length, Rows};
 
 /// A row of the working table, zero after every call.
 #[repr(C)]
@@ -26,33 +26,18 @@ pub fn judge(file: &[u8], table: &mut [Signature]) -> Result<Accepted, Refusal> 
 
 /// Judges a file, then writes the control rows of one of its built components, 16 bytes each; answers how many.
 pub fn lower(file: &[u8], table: &mut [Signature], component: u64, out: &mut [u8]) -> Result<usize, Refusal> {
-    let answer = unsafe {
-        archive::dansevik_lower(
-            file.as_ptr(),
-            file.len(),
-            table.as_mut_ptr(),
-            table_length(table),
-            component,
-            out.as_mut_ptr(),
-            out.len(),
-        )
-    };
-    Ok(answer.accepted()?.count as usize)
+    rows(archive::dansevik_lower, file, table, component, out)
 }
 
 /// Judges a file, then writes when each leaf unit of one of its components starts, 8 bytes each; answers how many.
 pub fn list(file: &[u8], table: &mut [Signature], component: u64, out: &mut [u8]) -> Result<usize, Refusal> {
-    let answer = unsafe {
-        archive::dansevik_list(
-            file.as_ptr(),
-            file.len(),
-            table.as_mut_ptr(),
-            table_length(table),
-            component,
-            out.as_mut_ptr(),
-            out.len(),
-        )
-    };
+    rows(archive::dansevik_list, file, table, component, out)
+}
+
+#[inline(always)]
+fn rows(call: Rows, file: &[u8], table: &mut [Signature], component: u64, out: &mut [u8]) -> Result<usize, Refusal> {
+    let (rows, length) = (table.as_mut_ptr(), table_length(table));
+    let answer = unsafe { call(file.as_ptr(), file.len(), rows, length, component, out.as_mut_ptr(), out.len()) };
     Ok(answer.accepted()?.count as usize)
 }
 

@@ -91,3 +91,14 @@ pub fn hidden() -> List {
     let list = list.built(128).instance(59).times(64, |list, j| list.invocation(0, 2 * j));
     list.built(1024).times(8, |list, _| list.instance(60)).times(64, |list, j| list.invocation(j % 8, 128 * (j / 8)))
 }
+
+/// The longest way down for a listing that calls itself for each next invocation: 60 components, each with many invocations of
+/// a leaf and behind them one of the component below. 3,968 records, 3,728 rows.
+pub fn longest() -> List {
+    let list = List::new().leaf(1).times(59, |list, below| descent(list, below, 63));
+    descent(list, 59, 10)
+}
+
+fn descent(list: List, below: u16, leaves: u16) -> List {
+    list.built(64).instance(0).instance(below).times(leaves, |list, k| list.invocation(0, k)).invocation(1, 0)
+}
