@@ -57,6 +57,27 @@ pub fn component(list: &[u8], c: usize) -> usize {
     NONE
 }
 
+// One more than n, if record i is a component's.
+fn counted(list: &[u8], i: usize, n: usize) -> usize {
+    if kind(record(list, i)) == 1 {
+        if n < 3968 {
+            return n + 1;
+        }
+    }
+    n
+}
+
+// The number of the last component; 0 where there is none.
+pub fn last(list: &[u8]) -> usize {
+    let mut n = 0;
+    let mut i = 0;
+    while i < 3968 {
+        n = counted(list, i, n);
+        i += 1;
+    }
+    if n == 0 { 0 } else { n - 1 }
+}
+
 // The n-th record of a kind in the component whose own record is `first`.
 pub fn nth(list: &[u8], first: usize, k: u8, n: usize) -> usize {
     if 3968 <= first {

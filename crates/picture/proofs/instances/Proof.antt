@@ -6,19 +6,16 @@ use Rattle.picture.proofs.instances.Statement.{statement}
 use Rattle.picture.proofs.instances.Tie as tie
 
 abbrev Inv-loop : tie.InvT-loop
-Inv-loop fd list first u s n i₀ i = i ≤ n
+Inv-loop list first u count p₀ i₀ p i = i ≤ count
 
 abbrev μ-loop : tie.MeasureT-loop
-μ-loop fd list first u s n i₀ i = n - i
+μ-loop list first u count p₀ i₀ p i = count - i
 
 count-requires : tie.Need-count-requires Inv-loop μ-loop
 count-requires c κs = search needs
 
 loop-holds : tie.Need-loop-holds Inv-loop μ-loop
 loop-holds c = search needs
-
-half-requires : tie.Need-half-requires Inv-loop μ-loop
-half-requires c κs = search needs
 
 instance-requires : tie.Need-instance-requires Inv-loop μ-loop
 instance-requires c κs = search needs
@@ -43,7 +40,6 @@ instances-spec =
     μ-loop
     count-requires
     loop-holds
-    half-requires
     instance-requires
     add-i
     loop-less

@@ -6,10 +6,10 @@ use Rattle.picture.proofs.own_lines.Statement.{statement}
 use Rattle.picture.proofs.own_lines.Tie as tie
 
 abbrev Inv-loop : tie.InvT-loop
-Inv-loop fd list first s k n p₀ p = p ≤ n
+Inv-loop list first k count p₀ n₀ p n = n ≤ count
 
 abbrev μ-loop : tie.MeasureT-loop
-μ-loop fd list first s k n p₀ p = n - p
+μ-loop list first k count p₀ n₀ p n = count - n
 
 count-requires : tie.Need-count-requires Inv-loop μ-loop
 count-requires c κs = search needs
@@ -20,8 +20,8 @@ loop-holds c = search needs
 own-line-requires : tie.Need-own-line-requires Inv-loop μ-loop
 own-line-requires c κs = search needs
 
-add-p : tie.Need-add-p Inv-loop μ-loop
-add-p c = search needs
+add-n : tie.Need-add-n Inv-loop μ-loop
+add-n c = search needs
 
 loop-less : tie.Need-loop-less Inv-loop μ-loop
 loop-less c = search needs
@@ -41,7 +41,7 @@ own-lines-spec =
     count-requires
     loop-holds
     own-line-requires
-    add-p
+    add-n
     loop-less
     loop-again
     returns)

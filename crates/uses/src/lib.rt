@@ -1,4 +1,4 @@
-// What the lines of one component's picture are drawn from.
+// The uses of one component's instances, and when what they read is there: what its picture is drawn from.
 use parts::NONE;
 ghost use Prim.Native.Nat.{_<_};
 
@@ -46,6 +46,29 @@ pub fn all_uses(list: &[u8], first: usize) -> Uses {
         offsets,
         records,
     }
+}
+
+// A use at the start alone, of instance 0.
+pub fn once() -> Uses {
+    let mut instances = [65535u16; 64];
+    instances[0] = 0;
+    Uses {
+        instances,
+        offsets: [0; 64],
+        records: [0; 64],
+    }
+}
+
+pub fn invoked(u: Uses, i: u16) -> bool {
+    let instances = u.instances;
+    let mut j = 0;
+    while j < 64 {
+        if instances[j] == i {
+            return true;
+        }
+        j += 1;
+    }
+    false
 }
 
 // What is always there.

@@ -1,9 +1,9 @@
--- `picture::gather::all_uses` is safe and ends after 64 invocations.
+-- `uses::all_uses` is safe and ends after 64 invocations.
 -- Assumes nothing.
 use Prim.Native.Nat.{_-_, _≤_}
 use borrow.Author.Needs.{needs}
-use Rattle.picture.proofs.gather.all_uses.Statement.{statement}
-use Rattle.picture.proofs.gather.all_uses.Tie as tie
+use Rattle.uses.proofs.all_uses.Statement.{statement}
+use Rattle.uses.proofs.all_uses.Tie as tie
 
 abbrev Inv-loop : tie.InvT-loop
 Inv-loop list first instances₀ offsets₀ records₀ j₀ instances offsets records j = j ≤ 64

@@ -1,9 +1,9 @@
--- `picture::gather::end_of` is safe and ends after sixteen ports.
+-- `uses::end_of` is safe and ends after sixteen ports.
 -- Assumes nothing.
 use Prim.Native.Nat.{_-_, _≤_}
 use borrow.Author.Needs.{needs}
-use Rattle.picture.proofs.gather.end_of.Statement.{statement}
-use Rattle.picture.proofs.gather.end_of.Tie as tie
+use Rattle.uses.proofs.end_of.Statement.{statement}
+use Rattle.uses.proofs.end_of.Tie as tie
 
 abbrev Inv-loop : tie.InvT-loop
 Inv-loop list first k most₀ n₀ most n = n ≤ 16

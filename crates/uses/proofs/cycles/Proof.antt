@@ -1,9 +1,9 @@
--- `picture::gather::cycles` is safe and ends after 64 invocations.
+-- `uses::cycles` is safe and ends after 64 invocations.
 -- Assumes nothing.
 use Prim.Native.Nat.{_-_, _≤_}
 use borrow.Author.Needs.{needs}
-use Rattle.picture.proofs.gather.cycles.Statement.{statement}
-use Rattle.picture.proofs.gather.cycles.Tie as tie
+use Rattle.uses.proofs.cycles.Statement.{statement}
+use Rattle.uses.proofs.cycles.Tie as tie
 
 abbrev Inv-loop : tie.InvT-loop
 Inv-loop list first delay instances offsets most₀ j₀ most j = j ≤ 64

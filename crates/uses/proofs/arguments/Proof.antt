@@ -1,9 +1,9 @@
--- `picture::gather::arguments` is safe and ends after 64 invocations.
+-- `uses::arguments` is safe and ends after 64 invocations.
 -- Assumes nothing.
 use Prim.Native.Nat.{_-_, _≤_}
 use borrow.Author.Needs.{needs}
-use Rattle.picture.proofs.gather.arguments.Statement.{statement}
-use Rattle.picture.proofs.gather.arguments.Tie as tie
+use Rattle.uses.proofs.arguments.Statement.{statement}
+use Rattle.uses.proofs.arguments.Tie as tie
 
 abbrev Inv-loop : tie.InvT-loop
 Inv-loop list first instance input instances records from₀ to₀ j₀ from to j = j ≤ 64

@@ -1,9 +1,9 @@
--- `picture::invoked` is safe and ends after 64 invocations.
+-- `uses::invoked` is safe and ends after 64 invocations.
 -- Assumes nothing.
 use Prim.Native.Nat.{_-_, _≤_}
 use borrow.Author.Needs.{needs}
-use Rattle.picture.proofs.invoked.Statement.{statement}
-use Rattle.picture.proofs.invoked.Tie as tie
+use Rattle.uses.proofs.invoked.Statement.{statement}
+use Rattle.uses.proofs.invoked.Tie as tie
 
 abbrev Inv-loop : tie.InvT-loop
 Inv-loop i instances j₀ j = j ≤ 64
