@@ -1,19 +1,22 @@
 #!/bin/sh
 # Makes, from each example's text, what is stored beside it: NAME.design (the packed file), NAME.verdict (the verdict's line), NAME.shown,
-# NAME.lowered and NAME.listed (the file as `show`, `lower` and `list` write it). With --check it changes nothing and says which stored file differs; its status is then 1.
+# NAME.lowered and NAME.listed (the file as `show`, `lower` and `list` write it) and NAME.svg (the picture of its last component). With
+# --check it changes nothing and says which stored file differs; its status is then 1.
 set -eu
 root=$(cd "$(dirname "$0")/.." && pwd -P)
 room=$(mktemp -d)
 trap 'rm -rf "$room"' EXIT
 
-# run NAME: the proved program, on standard input. Programs are for x86-64; elsewhere the kit's emulator runs them.
+# run NAME WORDS..: the proved program, on standard input. Programs are for x86-64; elsewhere the kit's emulator runs them.
 run() {
+    program=$root/target/bin/$1
+    shift
     if [ "$(uname -m)" = x86_64 ]; then
-        "$root/target/bin/$1"
+        "$program" "$@"
     else
         kit=$(dirname "$(dirname "$(rt doc)")")
         tools=$kit/on/$(uname -m)/toolchain
-        "$tools/bin/qemu-x86_64" "$tools/lib/ld-linux-x86-64.so.2" --library-path "$tools/lib" "$root/target/bin/$1"
+        "$tools/bin/qemu-x86_64" "$tools/lib/ld-linux-x86-64.so.2" --library-path "$tools/lib" "$program" "$@"
     fi
 }
 
@@ -24,6 +27,7 @@ one() {
     run pack <"$room/$1.records" >"$room/$1.design"
     run judge <"$room/$1.design" >"$room/$1.verdict"
     run show <"$room/$1.design" >"$room/$1.shown"
+    run show --svg <"$room/$1.design" >"$room/$1.svg"
     run lower <"$room/$1.design" >"$room/$1.lowered"
     run list <"$room/$1.design" >"$room/$1.listed"
 }
@@ -39,7 +43,7 @@ for text in "$root"/examples/*.text; do
     name=$(basename "$text" .text)
     one "$name"
     count=$((count + 1))
-    for kind in design verdict shown lowered listed; do
+    for kind in design verdict shown svg lowered listed; do
         if [ "$check" != --check ]; then
             cp "$room/$name.$kind" "$root/examples/$name.$kind"
         elif ! cmp -s "$room/$name.$kind" "$root/examples/$name.$kind"; then

@@ -165,7 +165,11 @@ pub fn open(p: Page, c: usize, lines: usize) {
         fd,
         b"<svg xmlns=\"http://www.w3.org/2000/svg\" font-family=\"monospace\" font-size=\"12\" xml:space=\"preserve\"",
     );
-    attribute(fd, b"width", lower(left_of(p.cycles), 10));
+    attribute(
+        fd,
+        b"width",
+        uses::greater(420, lower(left_of(p.cycles), 10)),
+    );
     attribute(fd, b"height", lower(top_of(lines), 10));
     io::write_all(
         fd,
