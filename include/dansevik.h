@@ -61,8 +61,8 @@ extern "C" {
    past these are only set to zero. */
 #define DANSEVIK_TABLE_ROWS 64
 
-/* Stack of a call, at most: a listing goes one call down for each invocation that stands before the next component below. */
-#define DANSEVIK_STACK_BYTES_MAX (512 * 1024)
+/* Stack of a call, at most: a listing has its notes and rows there, and goes one call down for each level of the hierarchy. */
+#define DANSEVIK_STACK_BYTES_MAX (96 * 1024)
 
 /* ---- Types ---- */
 
