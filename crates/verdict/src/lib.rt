@@ -304,7 +304,7 @@ fn copy(table: &[u16], rows: &mut [u16])
     requires { ⌜ length (now rows) ≡ 320 ⌝ }
     ensures { λ _. ⌜ now (rows .exit) ≡ copied (now (table .entry)) (now (rows .entry)) ⌝ }
 {
-    if table.len() < 320 {
+    if 320 > table.len() {
         return;
     }
     let mut i = 0;
