@@ -61,8 +61,8 @@ extern "C" {
    past these are only set to zero. */
 #define DANSEVIK_TABLE_ROWS 64
 
-/* Stack of a call, at most: a listing has its notes and rows there, and goes one call down for each level of the hierarchy. */
-#define DANSEVIK_STACK_BYTES_MAX (96 * 1024)
+/* Stack of a call, at most: dansevik_list makes its rows there before it writes them. */
+#define DANSEVIK_STACK_BYTES_MAX (72 * 1024)
 
 /* ---- Types ---- */
 

@@ -5,7 +5,7 @@ use dansevik_host::{judge, list, lower, pack, record, unpack, Table, FILE_BYTES,
 use std::thread;
 
 /// What a thread of Rust's takes by itself, with room for the test's own calls.
-const OWN: usize = 32 * 1024;
+const OWN: usize = 16 * 1024;
 
 #[test]
 fn every_call_keeps_within_the_stack_that_is_said() {

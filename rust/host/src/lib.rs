@@ -29,9 +29,9 @@ pub const START_BYTES: usize = 8 * 4096;
 pub const FILE_BYTES: usize = 512 * 128;
 pub const LIST_BYTES: usize = 16 * 31 * 128;
 
-/// Most stack that a call takes, as measured: a listing has its notes and rows there, and goes one call down for each level of
-/// the hierarchy. Every other call takes less than 8 KiB.
-pub const STACK_BYTES: usize = 96 * 1024;
+/// Most stack that a call takes, as measured: listing makes its rows there before it writes them. Every other call takes less
+/// than 8 KiB.
+pub const STACK_BYTES: usize = 72 * 1024;
 
 /// Working memory with a row for each component that a file may have, so that no call refuses it as too short. It serves any
 /// number of calls.
