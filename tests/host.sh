@@ -15,11 +15,15 @@ mkdir -p "$made"
 # shellcheck disable=SC2086
 for program in examples/judge tests/header; do
     sh tools/x86 cc -std=c99 $strict -o "$made/$(basename "$program")" "$program.c" "$library"
-    sh tools/x86 c++ -x c++ $strict -o "$made/$(basename "$program")-c++" "$program.c" -x none "$library"
+    sh tools/x86 c++ -x c++ -fsyntax-only $strict "$program.c"
 done
-for program in header header-c++; do
-    sh tools/x86 run "$made/$program" examples/squaring.design
-done
+sh tools/x86 run "$made/header" examples/squaring.design
+# Only an x86-64 machine's own C++ compiler makes what the archive can be linked with.
+if [ "$(uname -m)" = x86_64 ]; then
+    # shellcheck disable=SC2086
+    sh tools/x86 c++ -x c++ $strict -o "$made/header-c++" tests/header.c -x none "$library"
+    "$made/header-c++" examples/squaring.design
+fi
 
 # The example's lines are those of the stored table of cases, and its exit statuses those that it says.
 failed=0
