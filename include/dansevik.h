@@ -158,13 +158,6 @@ struct dansevik_answer dansevik_unpack(const uint8_t *file, size_t file_bytes, u
    the `count` (16) bytes from file + `offset` on, in your own memory and not copied. Refusals: 1, 2, 3, 14. */
 struct dansevik_answer dansevik_record(const uint8_t *file, size_t file_bytes, uint64_t record);
 
-/* The archive still counts the numbers of a table, five to a row, where the functions above say rows. These lines make up for
-   it, and go when the archive takes rows. */
-#define DANSEVIK_TABLE_NUMBERS(rows) (sizeof(struct dansevik_signature) / sizeof(uint16_t) * (rows))
-#define dansevik_judge(file, bytes, table, rows) dansevik_judge(file, bytes, table, DANSEVIK_TABLE_NUMBERS(rows))
-#define dansevik_lower(file, bytes, table, rows, c, out, room) dansevik_lower(file, bytes, table, DANSEVIK_TABLE_NUMBERS(rows), c, out, room)
-#define dansevik_list(file, bytes, table, rows, c, out, room) dansevik_list(file, bytes, table, DANSEVIK_TABLE_NUMBERS(rows), c, out, room)
-
 #ifdef __cplusplus
 }
 #endif

@@ -17,11 +17,19 @@ fn index(x: u8) -> usize
     x as usize
 }
 
+// Whether all bytes of a slice are zero, four at a turn.
 pub fn all_zero(s: &[u8]) -> bool
     ensures { λ r. ⌜ r ≡ all-zero (now (s .entry)) ⌝ }
 {
+    let n = s.len();
     let mut i = 0;
-    while i < s.len() {
+    while i + 4 <= n {
+        if numbers::four(s, i) != 0 {
+            return false;
+        }
+        i += 4;
+    }
+    while i < n {
         if s[i] != 0 {
             return false;
         }

@@ -7,10 +7,9 @@ fn case(name: &[u8]) {
     let fd = os::open_read(name);
     let n = io::read_full(fd, &mut file);
     libc::close(fd);
-    let mut table = [0u16; 320];
     io::write_all(STDOUT_FILENO, name);
     io::write_all(STDOUT_FILENO, b"\t");
-    report::verdict(STDOUT_FILENO, verdict::judge(&file[..n], &mut table));
+    report::verdict(STDOUT_FILENO, verdict::judge_alone(&file[..n]));
 }
 
 fn part_1() {

@@ -21,7 +21,8 @@ use Rattle.entry.specs.Main.{accepted-exactly}
 use Rattle.reading.specs.Proofs.Encoded.{All-in-range, accepted-in-range}
 use Rattle.records.specs.Decoded.{decoded}
 use Rattle.records.specs.Encoded.{encoded}
-use Rattle.verdict.specs.Judgement.{sixteens, records-of, judgement}
+use Rattle.look.specs.Listed.{sixteens, records-of}
+use Rattle.verdict.specs.Judgement.{judgement}
 use Rattle.verdict.proofs.Passed.{Passed, passed, length-records}
 use Rattle.claims.specs.File.{joined, list-bytes, file-of, Holds-lawful}
 use Rattle.claims.proofs.Pieces.{pieces, joined-all, length-joined, pieces-joined, sixteens-are}
@@ -94,13 +95,13 @@ module _ (D : Design) (lawful : Lawful D) (few : length (records D) ≤ 3968) wh
       let p : pieces (list-bytes D) 0 (length (records D)) ≡ map encoded (records D) = rw m at (pieces-joined (map encoded (records D)) (sixteens-encoded (records D) ranges)) in
       ap (map decoded) (sixteens-are (file-of D) f ∙ ap (λ (l : List ℕ). pieces l 0 (length (records D))) u ∙ p) ∙ decode-encoded (records D) ranges
 
-  pub from-design : (numbers : ℕ) → 320 ≤ numbers → judgement (file-of D) numbers ≡ accepted (record { components = length D; records = length (records D) })
+  pub from-design : (lent : ℕ) → 64 ≤ lent → judgement (file-of D) lent ≡ accepted (record { components = length D; records = length (records D) })
   unfolding judgement
-  from-design numbers room = rw (le-ltb numbers 320 room, held, said, in-order)
+  from-design lent room = rw (le-ltb lent 64 room, held, said, in-order)
 
-pub judged-exactly : (file : List ℕ) → Bytes file → (numbers : ℕ) → 320 ≤ numbers → (c r : ℕ)
-    → (judgement file numbers ≡ accepted (record { components = c; records = r })) ↔ Holds-lawful file c r
-judged-exactly file small numbers room c r = (
-  λ e. to-design file small c r (passed file numbers c r e),
-  λ h. rw (← h .is, ← h .components, ← h .count) (from-design (h .design) (h .lawful) (rw (h .count) (h .few)) numbers room),
+pub judged-exactly : (file : List ℕ) → Bytes file → (lent : ℕ) → 64 ≤ lent → (c r : ℕ)
+    → (judgement file lent ≡ accepted (record { components = c; records = r })) ↔ Holds-lawful file c r
+judged-exactly file small lent room c r = (
+  λ e. to-design file small c r (passed file lent c r e),
+  λ h. rw (← h .is, ← h .components, ← h .count) (from-design (h .design) (h .lawful) (rw (h .count) (h .few)) lent room),
 )

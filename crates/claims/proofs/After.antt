@@ -15,35 +15,35 @@ use Rattle.claims.specs.File.{said-design}
 use Rattle.claims.proofs.Then.{then-accepted, then-refused}
 use Rattle.claims.proofs.Main as Main
 
-module _ (file : List ℕ) (numbers : ℕ) (k : Counts) (e : judgement file numbers ≡ accepted k) where
+module _ (file : List ℕ) (lent : ℕ) (k : Counts) (e : judgement file lent ≡ accepted k) where
   pub same-design : design-of file (k .records) ≡ said-design file
   same-design =
-      let p = passed file numbers (k .components) (k .records) e in
+      let p = passed file lent (k .components) (k .records) e in
       ap (design-of file) (record-total file (k .components) (k .records) p ∙ sound-count file (p .count) (p .blocks))
 
   pub component-count : length (said-design file) ≡ k .components
-  component-count = (Main.its-design file numbers (k .components) (k .records) e) .2
+  component-count = (Main.its-design file lent (k .components) (k .records) e) .2
 
-module _ {A : Type 0} (f : Design → Answer A) (file : List ℕ) (numbers : ℕ) where
+module _ {A : Type 0} (f : Design → Answer A) (file : List ℕ) (lent : ℕ) where
   abbrev next : Counts → Answer A
   next k = f (design-of file (k .records))
 
-  pub after-accepted : (a : A) → (then (judgement file numbers) next ≡ accepted a) ↔ ((k : Counts) × (judgement file numbers ≡ accepted k) × (f (said-design file) ≡ accepted a))
+  pub after-accepted : (a : A) → (then (judgement file lent) next ≡ accepted a) ↔ ((k : Counts) × (judgement file lent ≡ accepted k) × (f (said-design file) ≡ accepted a))
   after-accepted a = (
-    λ e. (let (k, j, g) = (then-accepted next (judgement file numbers) a) .0 e in (k, j, rw (same-design file numbers k j) at g)),
-    λ h. (then-accepted next (judgement file numbers) a) .1 (h .0, h .1, rw (same-design file numbers (h .0) (h .1)) (h .2)),
+    λ e. (let (k, j, g) = (then-accepted next (judgement file lent) a) .0 e in (k, j, rw (same-design file lent k j) at g)),
+    λ h. (then-accepted next (judgement file lent) a) .1 (h .0, h .1, rw (same-design file lent (h .0) (h .1)) (h .2)),
   )
 
-  pub after-refused : (n p : ℕ) → (then (judgement file numbers) next ≡ refused n p)
-      ↔ (Main.First file numbers n p ⊎ ((k : Counts) × (judgement file numbers ≡ accepted k) × (f (said-design file) ≡ refused n p)))
-  after-refused n p = (λ e. to ((then-refused next (judgement file numbers) n p) .0 e), λ h. (then-refused next (judgement file numbers) n p) .1 (from h))
+  pub after-refused : (n p : ℕ) → (then (judgement file lent) next ≡ refused n p)
+      ↔ (Main.First file lent n p ⊎ ((k : Counts) × (judgement file lent ≡ accepted k) × (f (said-design file) ≡ refused n p)))
+  after-refused n p = (λ e. to ((then-refused next (judgement file lent) n p) .0 e), λ h. (then-refused next (judgement file lent) n p) .1 (from h))
     where
-      to : (judgement file numbers ≡ refused n p) ⊎ ((k : Counts) × (judgement file numbers ≡ accepted k) × (next k ≡ refused n p))
-          → Main.First file numbers n p ⊎ ((k : Counts) × (judgement file numbers ≡ accepted k) × (f (said-design file) ≡ refused n p))
-      to (inl h) = inl ((Main.refused-exactly file numbers n p) .0 h)
-      to (inr (k, j, g)) = inr (k, j, rw (same-design file numbers k j) at g)
+      to : (judgement file lent ≡ refused n p) ⊎ ((k : Counts) × (judgement file lent ≡ accepted k) × (next k ≡ refused n p))
+          → Main.First file lent n p ⊎ ((k : Counts) × (judgement file lent ≡ accepted k) × (f (said-design file) ≡ refused n p))
+      to (inl h) = inl ((Main.refused-exactly file lent n p) .0 h)
+      to (inr (k, j, g)) = inr (k, j, rw (same-design file lent k j) at g)
 
-      from : Main.First file numbers n p ⊎ ((k : Counts) × (judgement file numbers ≡ accepted k) × (f (said-design file) ≡ refused n p))
-          → (judgement file numbers ≡ refused n p) ⊎ ((k : Counts) × (judgement file numbers ≡ accepted k) × (next k ≡ refused n p))
-      from (inl h) = inl ((Main.refused-exactly file numbers n p) .1 h)
-      from (inr (k, j, g)) = inr (k, j, rw (same-design file numbers k j) g)
+      from : Main.First file lent n p ⊎ ((k : Counts) × (judgement file lent ≡ accepted k) × (f (said-design file) ≡ refused n p))
+          → (judgement file lent ≡ refused n p) ⊎ ((k : Counts) × (judgement file lent ≡ accepted k) × (next k ≡ refused n p))
+      from (inl h) = inl ((Main.refused-exactly file lent n p) .1 h)
+      from (inr (k, j, g)) = inr (k, j, rw (same-design file lent k j) g)

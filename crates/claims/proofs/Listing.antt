@@ -1,4 +1,4 @@
--- What is proved of the flat listing, over the bytes of the file and of the rows. `list-answer file numbers asked room` is what the contract of `listing::list` says of a file, a table of so many numbers, the component asked for and so much room; `list-left` what it leaves in the lent bytes.
+-- What is proved of the flat listing, over the bytes of the file and of the rows. `list-answer file lent asked room` is what the contract of `listing::list` says of a file, a table of so many lent, the component asked for and so much room; `list-left` what it leaves in the lent bytes.
 -- Assumes nothing.
 use Prim.Native.Nat.{ℕ, suc, _*_, _^_, _≤_, _<_}
 use mathlib.Core.Bool.{Bool, true, false, cond, _&&_}
@@ -116,19 +116,19 @@ module _ (D : Design) (asked room : ℕ) where
       from true g (inr h) = absurd (h .3 (fit g))
       from false g (inr h) = rw (lt-ltb asked (length D) (h .2), h .0, h .1)
 
-module _ (file : List ℕ) (numbers asked room : ℕ) where
+module _ (file : List ℕ) (lent asked room : ℕ) where
   -- A component is listed exactly when the file is accepted, the component is there, and its rows and units are within the limits and have room.
   pub record Lists (n : ℕ) : Type 0 where
     pub counts : Counts
-    pub is-accepted : judgement file numbers ≡ accepted counts
+    pub is-accepted : judgement file lent ≡ accepted counts
     pub present : asked < length (said-design file)
     pub within : Fits (said-design file) asked room
     pub count : row-count (said-design file) asked ≡ n
 
-  pub listed-exactly : (n : ℕ) → (list-answer file numbers asked room ≡ accepted n) ↔ Lists n
+  pub listed-exactly : (n : ℕ) → (list-answer file lent asked room ≡ accepted n) ↔ Lists n
   unfolding list-answer
   listed-exactly n =
-      let after = after-accepted (λ D. flat-answer D asked room) file numbers n in
+      let after = after-accepted (λ D. flat-answer D asked room) file lent n in
       let own = flat-accepted (said-design file) asked room n in (
         λ e. (let (k, a, g) = after .0 e in let h = own .0 g in record { counts = k; is-accepted = a; present = h .0; within = h .1; count = h .2 }),
         λ h. after .1 (h .counts, h .is-accepted, own .1 (h .present, h .within, h .count)),
@@ -137,45 +137,45 @@ module _ (file : List ℕ) (numbers asked room : ℕ) where
   -- "Then 14, then every other 13": the file is accepted, and the component is absent; or a limit is passed or the rows have no room.
   pub record Accepted-but (n p : ℕ) : Type 0 where
     pub counts : Counts
-    pub is-accepted : judgement file numbers ≡ accepted counts
+    pub is-accepted : judgement file lent ≡ accepted counts
     pub because : Cannot (said-design file) asked room n p
 
-  pub refused-exactly : (n p : ℕ) → (list-answer file numbers asked room ≡ refused n p) ↔ (Main.First file numbers n p ⊎ Accepted-but n p)
+  pub refused-exactly : (n p : ℕ) → (list-answer file lent asked room ≡ refused n p) ↔ (Main.First file lent n p ⊎ Accepted-but n p)
   unfolding list-answer
   refused-exactly n p = (λ e. to (after .0 e), λ h. after .1 (from h))
     where
-      after : (then (judgement file numbers) (λ (k : Counts). flat-answer (design-of file (k .records)) asked room) ≡ refused n p)
-          ↔ (Main.First file numbers n p ⊎ ((k : Counts) × (judgement file numbers ≡ accepted k) × (flat-answer (said-design file) asked room ≡ refused n p)))
-      after = after-refused (λ D. flat-answer D asked room) file numbers n p
+      after : (then (judgement file lent) (λ (k : Counts). flat-answer (design-of file (k .records)) asked room) ≡ refused n p)
+          ↔ (Main.First file lent n p ⊎ ((k : Counts) × (judgement file lent ≡ accepted k) × (flat-answer (said-design file) asked room ≡ refused n p)))
+      after = after-refused (λ D. flat-answer D asked room) file lent n p
 
-      to : Main.First file numbers n p ⊎ ((k : Counts) × (judgement file numbers ≡ accepted k) × (flat-answer (said-design file) asked room ≡ refused n p)) → Main.First file numbers n p ⊎ Accepted-but n p
+      to : Main.First file lent n p ⊎ ((k : Counts) × (judgement file lent ≡ accepted k) × (flat-answer (said-design file) asked room ≡ refused n p)) → Main.First file lent n p ⊎ Accepted-but n p
       to (inl h) = inl h
       to (inr (k, a, g)) = inr (record { counts = k; is-accepted = a; because = (flat-refused (said-design file) asked room n p) .0 g })
 
-      from : Main.First file numbers n p ⊎ Accepted-but n p → Main.First file numbers n p ⊎ ((k : Counts) × (judgement file numbers ≡ accepted k) × (flat-answer (said-design file) asked room ≡ refused n p))
+      from : Main.First file lent n p ⊎ Accepted-but n p → Main.First file lent n p ⊎ ((k : Counts) × (judgement file lent ≡ accepted k) × (flat-answer (said-design file) asked room ≡ refused n p))
       from (inl h) = inl h
       from (inr h) = inr (h .counts, h .is-accepted, (flat-refused (said-design file) asked room n p) .1 (h .because))
 
 -- The rows are read back from the bytes that were left, and tell every unit start of demand 3.
-module _ (file : List ℕ) (numbers asked : ℕ) (old : List ℕ) (n : ℕ) (h : list-answer file numbers asked (length old) ≡ accepted n) where
-  pub starts-read : read-starts n (list-left file numbers asked old) ≡ rows (said-design file) asked
+module _ (file : List ℕ) (lent asked : ℕ) (old : List ℕ) (n : ℕ) (h : list-answer file lent asked (length old) ≡ accepted n) where
+  pub starts-read : read-starts n (list-left file lent asked old) ≡ rows (said-design file) asked
   unfolding list-left flat-left
   starts-read =
-      let g = (listed-exactly file numbers asked (length old) n) .0 h in
+      let g = (listed-exactly file lent asked (length old) n) .0 h in
       let k = g .counts in
-      let d = Main.its-design file numbers (k .components) (k .records) (g .is-accepted) in
+      let d = Main.its-design file lent (k .components) (k .records) (g .is-accepted) in
       let there = g .present in
       let e = (flat-accepted (said-design file) asked (length old) n) .1 (there, g .within, g .count) in
       let c : length (rows (said-design file) asked) ≡ n = (flat-listing (said-design file) (d .0) asked there (λ t. t ≡ 0)) .row-total ∙ g .count in
       let b = starts-back (rows (said-design file) asked) (drop (8 * n) old) (row-small (said-design file) (d .0) asked there (g .within .1)) in
-      rw (g .is-accepted, same-design file numbers k (g .is-accepted), e) (rw c at b)
+      rw (g .is-accepted, same-design file lent k (g .is-accepted), e) (rw c at b)
 
-  pub starts-told : (S : ℕ → Type 0) → Tell-the-starts (said-design file) asked S (read-starts n (list-left file numbers asked old))
+  pub starts-told : (S : ℕ → Type 0) → Tell-the-starts (said-design file) asked S (read-starts n (list-left file lent asked old))
   starts-told S =
-      let g = (listed-exactly file numbers asked (length old) n) .0 h in
+      let g = (listed-exactly file lent asked (length old) n) .0 h in
       let k = g .counts in
-      let there = rw (component-count file numbers k (g .is-accepted)) at (g .present) in
-      let L = Main.listed file numbers (k .components) (k .records) (g .is-accepted) asked there S in
+      let there = rw (component-count file lent k (g .is-accepted)) at (g .present) in
+      let L = Main.listed file lent (k .components) (k .records) (g .is-accepted) asked there S in
       rw starts-read (record {
         total = L .row-total;
         use-has-row = λ u. rw (L .row-total) (L .use-has-row u);

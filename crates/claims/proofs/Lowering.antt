@@ -1,4 +1,4 @@
--- What is proved of lowering, over the bytes of the file and of the rows. `lowered file numbers asked room` is what the contract of `lowering::lower` says of a file, a table of so many numbers, the component asked for and so much room; `lower-left` what it leaves in the lent bytes.
+-- What is proved of lowering, over the bytes of the file and of the rows. `lowered file lent asked room` is what the contract of `lowering::lower` says of a file, a table of so many lent, the component asked for and so much room; `lower-left` what it leaves in the lent bytes.
 -- Assumes nothing.
 use Prim.Native.Nat.{ℕ, _*_, _≤_, _<_}
 use mathlib.Core.Bool.{Bool, true, false, cond, _&&_}
@@ -71,19 +71,19 @@ module _ (D : Design) (c room : ℕ) where
       from true e (inr h) = rw (lt-ltb room size (h .3), h .0, h .1)
       from false e (inr h) = absurd (let z : _≡_ {A = Bool} true false = sym (found-back (h .2)) ∙ e in let y : _≡_ {A = ℕ} 0 1 = cc in omega arith)
 
-module _ (file : List ℕ) (numbers asked room : ℕ) where
+module _ (file : List ℕ) (lent asked room : ℕ) where
   -- A component is lowered exactly when the file is accepted, the component is there and built, and its rows have room.
   pub record Lowers (l : List Row) : Type 0 where
     pub counts : Counts
-    pub is-accepted : judgement file numbers ≡ accepted counts
+    pub is-accepted : judgement file lent ≡ accepted counts
     pub can : Can (said-design file) asked
     pub enough : 16 * length l ≤ room
     pub are : rows (said-design file) asked ≡ l
 
-  pub lowered-exactly : (l : List Row) → (lowered file numbers asked room ≡ accepted l) ↔ Lowers l
+  pub lowered-exactly : (l : List Row) → (lowered file lent asked room ≡ accepted l) ↔ Lowers l
   unfolding lowered
   lowered-exactly l =
-      let after = after-accepted (λ D. component-rows D asked room) file numbers l in
+      let after = after-accepted (λ D. component-rows D asked room) file lent l in
       let own = component-lowered (said-design file) asked room l in (
         λ e. (let (k, a, g) = after .0 e in let h = own .0 g in record { counts = k; is-accepted = a; can = h .0; enough = h .1; are = h .2 }),
         λ h. after .1 (h .counts, h .is-accepted, own .1 (h .can, h .enough, h .are)),
@@ -92,33 +92,33 @@ module _ (file : List ℕ) (numbers asked room : ℕ) where
   -- "Then 14, then every other 13": the file is accepted, and the component is absent or a leaf; or its rows have no room.
   pub record Accepted-but (n p : ℕ) : Type 0 where
     pub counts : Counts
-    pub is-accepted : judgement file numbers ≡ accepted counts
+    pub is-accepted : judgement file lent ≡ accepted counts
     pub because : Cannot (said-design file) asked room n p
 
-  pub refused-exactly : (n p : ℕ) → (lowered file numbers asked room ≡ refused n p) ↔ (Main.First file numbers n p ⊎ Accepted-but n p)
+  pub refused-exactly : (n p : ℕ) → (lowered file lent asked room ≡ refused n p) ↔ (Main.First file lent n p ⊎ Accepted-but n p)
   unfolding lowered
   refused-exactly n p = (λ e. to (after .0 e), λ h. after .1 (from h))
     where
-      after : (then (judgement file numbers) (λ (k : Counts). component-rows (design-of file (k .records)) asked room) ≡ refused n p)
-          ↔ (Main.First file numbers n p ⊎ ((k : Counts) × (judgement file numbers ≡ accepted k) × (component-rows (said-design file) asked room ≡ refused n p)))
-      after = after-refused (λ D. component-rows D asked room) file numbers n p
+      after : (then (judgement file lent) (λ (k : Counts). component-rows (design-of file (k .records)) asked room) ≡ refused n p)
+          ↔ (Main.First file lent n p ⊎ ((k : Counts) × (judgement file lent ≡ accepted k) × (component-rows (said-design file) asked room ≡ refused n p)))
+      after = after-refused (λ D. component-rows D asked room) file lent n p
 
-      to : Main.First file numbers n p ⊎ ((k : Counts) × (judgement file numbers ≡ accepted k) × (component-rows (said-design file) asked room ≡ refused n p)) → Main.First file numbers n p ⊎ Accepted-but n p
+      to : Main.First file lent n p ⊎ ((k : Counts) × (judgement file lent ≡ accepted k) × (component-rows (said-design file) asked room ≡ refused n p)) → Main.First file lent n p ⊎ Accepted-but n p
       to (inl h) = inl h
       to (inr (k, a, g)) = inr (record { counts = k; is-accepted = a; because = (component-refused (said-design file) asked room n p) .0 g })
 
-      from : Main.First file numbers n p ⊎ Accepted-but n p → Main.First file numbers n p ⊎ ((k : Counts) × (judgement file numbers ≡ accepted k) × (component-rows (said-design file) asked room ≡ refused n p))
+      from : Main.First file lent n p ⊎ Accepted-but n p → Main.First file lent n p ⊎ ((k : Counts) × (judgement file lent ≡ accepted k) × (component-rows (said-design file) asked room ≡ refused n p))
       from (inl h) = inl h
       from (inr h) = inr (h .counts, h .is-accepted, (component-refused (said-design file) asked room n p) .1 (h .because))
 
 -- The rows are read back from the bytes that were left, and do exactly what the timetable does.
-module _ (file : List ℕ) (numbers asked : ℕ) (old : List ℕ) (l : List Row) (h : lowered file numbers asked (length old) ≡ accepted l) where
-  pub rows-read : read-rows (length l) (lower-left file numbers asked old) ≡ rows (said-design file) asked
-  rows-read = rw h (bytes-read-back l (drop (16 * length l) old) ∙ sym (((lowered-exactly file numbers asked (length old) l) .0 h) .are))
+module _ (file : List ℕ) (lent asked : ℕ) (old : List ℕ) (l : List Row) (h : lowered file lent asked (length old) ≡ accepted l) where
+  pub rows-read : read-rows (length l) (lower-left file lent asked old) ≡ rows (said-design file) asked
+  rows-read = rw h (bytes-read-back l (drop (16 * length l) old) ∙ sym (((lowered-exactly file lent asked (length old) l) .0 h) .are))
 
-  pub rows-do : (S : ℕ → Type 0) → Do-the-timetable (said-design file) asked (said-records file) S (read-rows (length l) (lower-left file numbers asked old))
+  pub rows-do : (S : ℕ → Type 0) → Do-the-timetable (said-design file) asked (said-records file) S (read-rows (length l) (lower-left file lent asked old))
   rows-do S =
-      let g = (lowered-exactly file numbers asked (length old) l) .0 h in
-      let there = rw (component-count file numbers (g .counts) (g .is-accepted)) at (g .can .0) in
-      let w = Main.lowered file numbers (g .counts .components) (g .counts .records) (g .is-accepted) asked there (g .can .1) S in
+      let g = (lowered-exactly file lent asked (length old) l) .0 h in
+      let there = rw (component-count file lent (g .counts) (g .is-accepted)) at (g .can .0) in
+      let w = Main.lowered file lent (g .counts .components) (g .counts .records) (g .is-accepted) asked there (g .can .1) S in
       rw rows-read (record { drives = w .drives; starts = w .starts; connects = w .connects; one-driver = w .one-driver })

@@ -1,4 +1,4 @@
--- The main page: what is proved of every file of bytes. `judgement file numbers` is what the contract of `verdict::judge` says of a file and a working table of so many numbers, five to a row.
+-- The main page: what is proved of every file of bytes. `judgement file lent` is what the contract of `verdict::judge` says of a file and a working table of so many lent, five to a row.
 -- Assumes nothing.
 use Prim.Native.Nat.{ℕ, _≤_, _<_}
 use mathlib.Core.Path.{_≡_, refl, ap, _∙_}
@@ -26,47 +26,48 @@ use Rattle.timetable.specs.Lowered.{Lowered, Wired}
 use Rattle.timetable.specs.Main as Timetable
 use Rattle.packing.specs.Packed.{packed}
 use Rattle.records.specs.Encoded.{encoded}
-use Rattle.verdict.specs.Judgement.{records-of, counts, judgement}
+use Rattle.look.specs.Listed.{records-of}
+use Rattle.verdict.specs.Judgement.{counts, judgement}
 use Rattle.verdict.proofs.Passed.{passed}
 use Rattle.claims.specs.File.{joined, file-of, Holds-lawful, said-records, said-design}
 use Rattle.claims.proofs.Accepted.{file-again, judged-exactly}
 
 -- Demand 2: "A file is accepted exactly when the rules hold": when it is the packing of the record list of a design that is in range, whole and keeps them.
-pub accepted-exactly : (file : List ℕ) → Bytes file → (numbers : ℕ) → 320 ≤ numbers → (c r : ℕ)
-    → (judgement file numbers ≡ accepted (record { components = c; records = r })) ↔ Holds-lawful file c r
+pub accepted-exactly : (file : List ℕ) → Bytes file → (lent : ℕ) → 64 ≤ lent → (c r : ℕ)
+    → (judgement file lent ≡ accepted (record { components = c; records = r })) ↔ Holds-lawful file c r
 accepted-exactly = judged-exactly
 
 -- Demand 1: "the first in the fixed order": the table, then the blocks, then the records, of which `Refusal` names the first that breaks a rule and the lowest rule that it breaks.
-abbrev pub First : List ℕ → (numbers n p : ℕ) → Type 0
-First file numbers n p =
-    ((numbers < 320) × (n ≡ 13) × (p ≡ 0))
-    ⊎ ((320 ≤ numbers) × ((sound file ≡ refused n p) ⊎ ((k : ℕ) × (sound file ≡ accepted k) × Entry.Refusal (records-of file k) n p)))
+abbrev pub First : List ℕ → (lent n p : ℕ) → Type 0
+First file lent n p =
+    ((lent < 64) × (n ≡ 13) × (p ≡ 0))
+    ⊎ ((64 ≤ lent) × ((sound file ≡ refused n p) ⊎ ((k : ℕ) × (sound file ≡ accepted k) × Entry.Refusal (records-of file k) n p)))
 
 refused-records : (a : Entry.Answer) (n p : ℕ) → (counts a ≡ refused n p) ↔ (a ≡ Entry.refused n p)
 refused-records (Entry.accepted c r) n p = (λ e. absurd (let z : _≡_ {A = ℕ} 0 1 = cc in omega arith), λ e. absurd (let z : _≡_ {A = ℕ} 0 1 = cc in omega arith))
 refused-records (Entry.refused m q) n p = (λ e. cc, λ e. cc)
 
-pub refused-exactly : (file : List ℕ) (numbers n p : ℕ) → (judgement file numbers ≡ refused n p) ↔ First file numbers n p
+pub refused-exactly : (file : List ℕ) (lent n p : ℕ) → (judgement file lent ≡ refused n p) ↔ First file lent n p
 unfolding judgement
-refused-exactly file numbers n p = (to (ltb numbers 320) refl (sound file) refl, from)
+refused-exactly file lent n p = (to (ltb lent 64) refl (sound file) refl, from)
   where
-    to : (t : Bool) → ltb numbers 320 ≡ t → (a : Answer ℕ) → sound file ≡ a
-        → _≡_ {A = Answer Counts} (cond t (refused 13 0) (then a (λ (k : ℕ). counts (verdict (records-of file k))))) (refused n p) → First file numbers n p
-    to true e a q h = inl (ltb-true numbers 320 e, cc, cc)
-    to false e (refused m s) q h = inr (ltb-false numbers 320 e, inl (cc))
+    to : (t : Bool) → ltb lent 64 ≡ t → (a : Answer ℕ) → sound file ≡ a
+        → _≡_ {A = Answer Counts} (cond t (refused 13 0) (then a (λ (k : ℕ). counts (verdict (records-of file k))))) (refused n p) → First file lent n p
+    to true e a q h = inl (ltb-true lent 64 e, cc, cc)
+    to false e (refused m s) q h = inr (ltb-false lent 64 e, inl (cc))
     to false e (accepted k) q h =
-        inr (ltb-false numbers 320 e, inr (k, q, (Entry-main.refused-exactly (records-of file k) n p) .0 ((refused-records (verdict (records-of file k)) n p) .0 h)))
+        inr (ltb-false lent 64 e, inr (k, q, (Entry-main.refused-exactly (records-of file k) n p) .0 ((refused-records (verdict (records-of file k)) n p) .0 h)))
 
-    from : First file numbers n p → judgement file numbers ≡ refused n p
-    from (inl h) = rw (lt-ltb numbers 320 (h .0), h .1, h .2)
-    from (inr (l, inl h)) = rw (le-ltb numbers 320 l, h)
+    from : First file lent n p → judgement file lent ≡ refused n p
+    from (inl h) = rw (lt-ltb lent 64 (h .0), h .1, h .2)
+    from (inr (l, inl h)) = rw (le-ltb lent 64 l, h)
     from (inr (l, inr (k, h, f))) =
-        rw (le-ltb numbers 320 l, h) ((refused-records (verdict (records-of file k)) n p) .1 ((Entry-main.refused-exactly (records-of file k) n p) .1 f))
+        rw (le-ltb lent 64 l, h) ((refused-records (verdict (records-of file k)) n p) .1 ((Entry-main.refused-exactly (records-of file k) n p) .1 f))
 
 -- Of an accepted file, over its bytes: the records that it holds and the design that they say.
-module _ (file : List ℕ) (numbers c r : ℕ) (is-accepted : judgement file numbers ≡ accepted (record { components = c; records = r })) where
+module _ (file : List ℕ) (lent c r : ℕ) (is-accepted : judgement file lent ≡ accepted (record { components = c; records = r })) where
   rules-kept : verdict (said-records file) ≡ Entry.accepted c r
-  rules-kept = let p = passed file numbers c r is-accepted in rw (sound-count file (p .count) (p .blocks)) at (p .rules)
+  rules-kept = let p = passed file lent c r is-accepted in rw (sound-count file (p .count) (p .blocks)) at (p .rules)
 
   pub its-design : Lawful (said-design file) × (records (said-design file) ≡ said-records file) × (length (said-design file) ≡ c)
   its-design = let h = Entry-main.its-records (said-records file) c r rules-kept in (h .0, h .1, Timetable.said-count (said-records file) c r rules-kept)
@@ -74,7 +75,7 @@ module _ (file : List ℕ) (numbers c r : ℕ) (is-accepted : judgement file num
   -- The file is that design's.
   pub its-file : Bytes file → file-of (said-design file) ≡ file
   its-file small =
-      let p = passed file numbers c r is-accepted in
+      let p = passed file lent c r is-accepted in
       let n = sound-count file (p .count) (p .blocks) in
       ap (λ (rs : List Record). packed (joined (map encoded rs))) (its-design .1) ∙ rw n at (file-again file small c r p)
 

@@ -11,7 +11,7 @@ use Rattle.packing.specs.Packed.{unpacked}
 use Rattle.packing.proofs.Main as Packing
 use Rattle.look.specs.Look.{sixteen}
 use Rattle.verdict.proofs.Unpacked.{sixteen-unpacked}
-use Rattle.verdict.specs.Judgement.{sixteens}
+use Rattle.look.specs.Listed.{sixteens}
 use Rattle.claims.specs.File.{joined}
 
 -- n pieces of l, from piece i on.

@@ -11,7 +11,7 @@ use Rattle.entry.specs.Entered.{design}
 use Rattle.packing.specs.Packed.{packed}
 use Rattle.records.specs.Encoded.{encoded}
 use Rattle.blocks.specs.File.{record-count}
-use Rattle.verdict.specs.Judgement.{records-of}
+use Rattle.look.specs.Listed.{records-of}
 
 unfoldable pub joined : List (List ℕ) → List ℕ
 joined [] = []

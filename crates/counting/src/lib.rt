@@ -191,7 +191,7 @@ fn count_component(
 {
     let at = ends[c];
     let w = reader::row_of(table, c);
-    if w.built {
+    if w.class != 0 {
         let mut before = [0u16; 32];
         let n = count_units(file, table, components, records, c, units, &mut before);
         let t = note_invocations(

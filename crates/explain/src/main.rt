@@ -8,9 +8,8 @@ fn main() {
     // One byte more than any file has: whatever is longer is refused for its length.
     let mut file = [0u8; 65537];
     let n = io::read_full(STDIN_FILENO, &mut file);
-    let mut table = [0u16; 320];
     let mut list = [0u8; 63488];
-    match verdict::judge(&file[..n], &mut table) {
+    match verdict::judge_alone(&file[..n]) {
         Verdict::Accepted {
             components: _,
             records: _,

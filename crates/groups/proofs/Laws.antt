@@ -20,7 +20,8 @@ use Rattle.reading.specs.Tests.{is-built}
 use Rattle.reader.specs.Rows.{row-in}
 use Rattle.look.specs.Look.{sixteen, look, kind}
 use Rattle.look.proofs.Laws.{sixteen-small}
-use Rattle.verdict.specs.Judgement.{records-of, judgement, Filled}
+use Rattle.look.specs.Listed.{records-of}
+use Rattle.verdict.specs.Judgement.{judgement, Filled}
 use Rattle.verdict.proofs.Whole.{Holds, length-from, looked, right}
 use Rattle.verdict.proofs.Passed.{passed, record-total, said-lawful}
 use Rattle.verdict.proofs.Counts.{count-bounds}

@@ -16,7 +16,7 @@ use Rattle.entry.specs.Records.{records}
 use Rattle.entry.specs.Entered.{design}
 use Rattle.reading.specs.Table.{Table-of}
 use Rattle.reader.specs.Rows.{row-in}
-use Rattle.verdict.specs.Judgement.{records-of}
+use Rattle.look.specs.Listed.{records-of}
 
 -- The design that the first n records of a file say.
 abbrev pub design-of : List ℕ → (n : ℕ) → Design

@@ -4,9 +4,11 @@ use answers::Lookup;
 use answers::Refusal;
 use answers::Verdict;
 use answers::Written;
+use signatures::Signature;
 ghost use mathlib.Core.Path.{_≡_};
 ghost use lib.ListN.{length, replicate};
 ghost use Rattle.answers.specs.Answer.{number, judged, written, looked-up};
+ghost use Rattle.signatures.specs.Rows.{zero-row};
 ghost use Rattle.blocks.specs.File.{record-answer};
 ghost use Rattle.packing.specs.Packed.{packed, unpacked};
 ghost use Rattle.packing.specs.Answer.{pack-answer, unpack-answer, kept-or-written};
@@ -90,8 +92,8 @@ fn of_written(w: Written) -> Reply
 
 // The verdict: component and record counts.
 #[no_mangle]
-pub extern "C" fn dansevik_judge(file: &[u8], table: &mut [u16]) -> Reply
-    ensures { λ r. ⌜ (r ≡ reply counts (judgement (now (file .entry)) (length (now (table .entry))))) × (now (table .exit) ≡ replicate (length (now (table .entry))) 0) ⌝ }
+pub extern "C" fn dansevik_judge(file: &[u8], table: &mut [Signature]) -> Reply
+    ensures { λ r. ⌜ (r ≡ reply counts (judgement (now (file .entry)) (length (now (table .entry))))) × (now (table .exit) ≡ replicate (length (now (table .entry))) zero-row) ⌝ }
 {
     of_verdict(verdict::judge(file, table))
 }
@@ -100,19 +102,24 @@ pub extern "C" fn dansevik_judge(file: &[u8], table: &mut [u16]) -> Reply
 #[no_mangle]
 pub extern "C" fn dansevik_lower(
     file: &[u8],
-    table: &mut [u16],
+    table: &mut [Signature],
     asked: u64,
     out: &mut [u8],
 ) -> Reply
-    ensures { λ r. ⌜ (r ≡ reply amount (lower-answer (now (file .entry)) (length (now (table .entry))) asked (length (now (out .entry))))) × (now (out .exit) ≡ lower-left (now (file .entry)) (length (now (table .entry))) asked (now (out .entry))) × (now (table .exit) ≡ replicate (length (now (table .entry))) 0) ⌝ }
+    ensures { λ r. ⌜ (r ≡ reply amount (lower-answer (now (file .entry)) (length (now (table .entry))) asked (length (now (out .entry))))) × (now (out .exit) ≡ lower-left (now (file .entry)) (length (now (table .entry))) asked (now (out .entry))) × (now (table .exit) ≡ replicate (length (now (table .entry))) zero-row) ⌝ }
 {
     of_written(lowering::lower(file, table, size(asked), out))
 }
 
 // The unit starts of one component, eight bytes each.
 #[no_mangle]
-pub extern "C" fn dansevik_list(file: &[u8], table: &mut [u16], asked: u64, out: &mut [u8]) -> Reply
-    ensures { λ r. ⌜ (r ≡ reply amount (list-answer (now (file .entry)) (length (now (table .entry))) asked (length (now (out .entry))))) × (now (out .exit) ≡ list-left (now (file .entry)) (length (now (table .entry))) asked (now (out .entry))) × (now (table .exit) ≡ replicate (length (now (table .entry))) 0) ⌝ }
+pub extern "C" fn dansevik_list(
+    file: &[u8],
+    table: &mut [Signature],
+    asked: u64,
+    out: &mut [u8],
+) -> Reply
+    ensures { λ r. ⌜ (r ≡ reply amount (list-answer (now (file .entry)) (length (now (table .entry))) asked (length (now (out .entry))))) × (now (out .exit) ≡ list-left (now (file .entry)) (length (now (table .entry))) asked (now (out .entry))) × (now (table .exit) ≡ replicate (length (now (table .entry))) zero-row) ⌝ }
 {
     of_written(listing::list(file, table, size(asked), out))
 }

@@ -6,6 +6,5 @@ fn main() {
     // One byte more than any file has: whatever is longer is refused for its length.
     let mut file = [0u8; 65537];
     let n = io::read_full(STDIN_FILENO, &mut file);
-    let mut table = [0u16; 320];
-    report::verdict(STDOUT_FILENO, verdict::judge(&file[..n], &mut table));
+    report::verdict(STDOUT_FILENO, verdict::judge_alone(&file[..n]));
 }

@@ -25,8 +25,8 @@ flat-answer D asked room =
     (refused 14 asked)
 
 -- "Listing judges the whole file first."
-unfoldable pub list-answer : (file : List ℕ) → (numbers asked room : ℕ) → Answer ℕ
-list-answer file numbers asked room = then (judgement file numbers) (λ k. flat-answer (design-of file (k .records)) asked room)
+unfoldable pub list-answer : (file : List ℕ) → (lent asked room : ℕ) → Answer ℕ
+list-answer file lent asked room = then (judgement file lent) (λ k. flat-answer (design-of file (k .records)) asked room)
 
 -- What is left where a call was accepted, and "a refusal: lent output keeps every byte".
 abbrev pub left : {A : Type 0} → Answer A → (A → List ℕ) → List ℕ → List ℕ
@@ -36,5 +36,5 @@ left (refused n p) new old = old
 unfoldable pub flat-left : Design → (asked : ℕ) → (old : List ℕ) → List ℕ
 flat-left D asked old = left (flat-answer D asked (length old)) (λ n. rows-bytes (rows D asked) ++ drop (8 * n) old) old
 
-unfoldable pub list-left : (file : List ℕ) → (numbers asked : ℕ) → (old : List ℕ) → List ℕ
-list-left file numbers asked old = left (judgement file numbers) (λ k. flat-left (design-of file (k .records)) asked old) old
+unfoldable pub list-left : (file : List ℕ) → (lent asked : ℕ) → (old : List ℕ) → List ℕ
+list-left file lent asked old = left (judgement file lent) (λ k. flat-left (design-of file (k .records)) asked old) old

@@ -3,10 +3,14 @@ use answers::Fault;
 use answers::Refusal;
 use answers::Verdict;
 use answers::Written;
+use signatures::Signature;
+use verdict::Opening;
 ghost use mathlib.Core.Path.{_≡_};
-ghost use Prim.Native.Nat.{_+_, _≤_, _<_};
+ghost use Prim.Native.Nat.{ℕ, _+_, _≤_, _<_};
 ghost use lib.ListN.{length, replicate};
-ghost use Rattle.answers.specs.Answer.{written};
+ghost use Rattle.answers.specs.Answer.{written, judged};
+ghost use Rattle.signatures.specs.Rows.{zero-row};
+ghost use Rattle.verdict.specs.Judgement.{judgement, Filled};
 ghost use Rattle.groups.specs.Groups.{design-of, Opened};
 ghost use Rattle.listing.specs.Answer.{fits, flat-answer, list-answer, flat-left, list-left};
 
@@ -70,17 +74,32 @@ fn list_opened(
     refused(Fault::Room, 0)
 }
 
-// Judges a file, then lists one of its components: how many rows of 8 bytes there are, or the first refusal.
-// The table has five numbers for each of 64 components, and is zero after every call.
-pub fn list(file: &[u8], table: &mut [u16], asked: usize, out: &mut [u8]) -> Written
-    ensures { λ r. ⌜ (written r ≡ list-answer (now (file .entry)) (length (now (table .entry))) asked (length (now (out .entry)))) × (now (out .exit) ≡ list-left (now (file .entry)) (length (now (table .entry))) asked (now (out .entry))) × (now (table .exit) ≡ replicate (length (now (table .entry))) 0) ⌝ }
+// Of a file that has been judged, with its verdict and rows.
+fn list_judged(file: &[u8], o: Opening, asked: usize, out: &mut [u8]) -> Written
+    requires { ⌜ (length (o .rows) ≡ 320) × Filled (judged (o .verdict)) (now file) (o .rows) × ((lent : ℕ) × (judged (o .verdict) ≡ judgement (now file) lent)) ⌝ }
+    ensures { λ r. ⌜ ((lent : ℕ) → judged (o .verdict) ≡ judgement (now (file .entry)) lent → (written r ≡ list-answer (now (file .entry)) lent asked (length (now (out .entry)))) × (now (out .exit) ≡ list-left (now (file .entry)) lent asked (now (out .entry)))) ⌝ }
 {
-    let mut rows = [0u16; 320];
-    match verdict::open(file, table, &mut rows) {
+    let rows = o.rows;
+    let verdict = o.verdict;
+    match verdict {
         Verdict::Accepted {
             components,
             records,
         } => list_opened(file, &rows, components, records, asked, out),
         Verdict::Refused(r) => Written::Refused(r),
     }
+}
+
+// The unit starts of one component, eight bytes each: how many, or the first refusal. The table is zero after every call.
+pub fn list(file: &[u8], table: &mut [Signature], asked: usize, out: &mut [u8]) -> Written
+    ensures { λ r. ⌜ (written r ≡ list-answer (now (file .entry)) (length (now (table .entry))) asked (length (now (out .entry)))) × (now (out .exit) ≡ list-left (now (file .entry)) (length (now (table .entry))) asked (now (out .entry))) × (now (table .exit) ≡ replicate (length (now (table .entry))) zero-row) ⌝ }
+{
+    list_judged(file, verdict::opened(file, table), asked, out)
+}
+
+// For callers that lend no table.
+pub fn list_alone(file: &[u8], asked: usize, out: &mut [u8]) -> Written
+    ensures { λ r. ⌜ (written r ≡ list-answer (now (file .entry)) 64 asked (length (now (out .entry)))) × (now (out .exit) ≡ list-left (now (file .entry)) 64 asked (now (out .entry))) ⌝ }
+{
+    list_judged(file, verdict::open_alone(file), asked, out)
 }

@@ -4,7 +4,7 @@ use Prim.Native.Nat.{ℕ, _+_, _≤_, _<_}
 use mathlib.Core.Path.{_≡_, refl, sym, ap, _∙_}
 use mathlib.Core.List.{List}
 use native.Mathlib.Omega.{arith}
-use lib.ListN.{length, getD, take, drop}
+use lib.ListN.{length, getD, drop}
 use lib.Seq.{getD-take, getD-drop}
 use borrow.Author.Tests.{le-ltb}
 use Rattle.timeline.specs.Design.{Port}
@@ -15,9 +15,9 @@ use Rattle.numbers.specs.Numbers.{number, Bytes}
 use Rattle.numbers.proofs.Bytes.{taken, dropped, number-bytes}
 use Rattle.blocks.specs.File.{record-place}
 use Rattle.records.specs.Decoded.{decoded, the-port}
-use Rattle.records.specs.Encoded.{encoded, port-bytes}
+use Rattle.records.specs.Encoded.{encoded}
 use Rattle.records.proofs.Main.{encoded-decoded, decoded-range}
-use Rattle.look.specs.Look.{sixteen, look}
+use Rattle.look.specs.Look.{sixteen, look-place, look}
 
 pub decoded-ranged : (l : List ℕ) → Bytes l → Ranged (decoded l)
 decoded-ranged l small = go (decoded l) refl
@@ -40,7 +40,8 @@ module _ (file : List ℕ) (i : ℕ) where
   look-is l =
       let a : record-place i + 3 ≡ record-place i + 2 + 1 = omega arith in
       let b : record-place i + 5 ≡ record-place i + 4 + 1 = omega arith in
-      rw (le-ltb _ _ l, byte-at 2 (omega arith), byte-at 3 (omega arith), byte-at 4 (omega arith), byte-at 5 (omega arith), byte-at 6 (omega arith), a, b)
+      let m : look-place file i ≡ record-place i = omega (arith, l) in
+      rw (le-ltb (length file) 24 (omega (arith, l)), m, byte-at 2 (omega arith), byte-at 3 (omega arith), byte-at 4 (omega arith), byte-at 5 (omega arith), byte-at 6 (omega arith), a, b)
 
 -- The port in the bytes of a port record.
 port-there : (p : Port) → Port-range p → (the-port (encoded (part (input p))) ≡ p) × (the-port (encoded (part (output p))) ≡ p)

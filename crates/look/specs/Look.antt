@@ -1,6 +1,6 @@
 -- What stands in a file under a record's number.
 -- Assumes nothing.
-use Prim.Native.Nat.{ℕ, _+_}
+use Prim.Native.Nat.{ℕ, _+_, _-_, min}
 use mathlib.Core.Bool.{cond}
 use mathlib.Core.List.{List}
 use lib.ListN.{length, getD, take, drop}
@@ -14,11 +14,15 @@ module _ (file : List ℕ) (i : ℕ) where
   abbrev pub sixteen : List ℕ
   sixteen = take 16 (drop (record-place i) file)
 
-  -- "Bytes 2–3 start s; bytes 4–5 end e; byte 6 width" of record i, whatever its kind; nothing past the end of the file.
+  -- Where record i stands; past the end of the file, where the last sixteen bytes do, so that something stands there.
+  abbrev pub look-place : ℕ
+  look-place = min (record-place i) (length file - 16)
+
+  -- "Bytes 2–3 start s; bytes 4–5 end e; byte 6 width" of record i, whatever its kind; nothing of a file that is too short for a record.
   unfoldable pub look : Port
   look =
-      cond (ltb (length file) (record-place i + 16)) (record { start = 0; end = 0; width = 0 })
-      (record { start = number 2 file (record-place i + 2); end = number 2 file (record-place i + 4); width = getD file (record-place i + 6) 0 })
+      cond (ltb (length file) 24) (record { start = 0; end = 0; width = 0 })
+      (record { start = number 2 file (look-place + 2); end = number 2 file (look-place + 4); width = getD file (look-place + 6) 0 })
 
   -- "Byte 0 is the kind."
   abbrev pub kind : ℕ

@@ -20,9 +20,9 @@ component-rows D c room =
     cond (ltb c (length D) && is-built (class D c)) (cond (ltb room (16 * length (rows D c))) (refused 13 0) (accepted (rows D c))) (refused 14 c)
 
 -- "Lowering and listing judge the whole file first, with the same table." The rows of the component asked for, or the first refusal.
-unfoldable pub lowered : (file : List ℕ) → (numbers asked room : ℕ) → Answer (List Row)
-lowered file numbers asked room =
-    then (judgement file numbers) (λ (k : Counts). component-rows (design-of file (k .records)) asked room)
+unfoldable pub lowered : (file : List ℕ) → (lent asked room : ℕ) → Answer (List Row)
+lowered file lent asked room =
+    then (judgement file lent) (λ (k : Counts). component-rows (design-of file (k .records)) asked room)
 
 -- "Acceptance hands back: [..] from lowering and listing the number of rows."
 abbrev pub how-many : Answer (List Row) → Answer ℕ
@@ -34,9 +34,9 @@ abbrev pub left : Answer (List Row) → (old : List ℕ) → List ℕ
 left (accepted l) old = rows-bytes l ++ drop (16 * length l) old
 left (refused n p) old = old
 
--- So many numbers lent as the table, so many bytes of room; and what those bytes, `old`, then hold.
-abbrev pub lower-answer : (file : List ℕ) → (numbers asked room : ℕ) → Answer ℕ
-lower-answer file numbers asked room = how-many (lowered file numbers asked room)
+-- Of a table of so many rows lent, and so many bytes of room; and what those bytes, `old`, then hold.
+abbrev pub lower-answer : (file : List ℕ) → (lent asked room : ℕ) → Answer ℕ
+lower-answer file lent asked room = how-many (lowered file lent asked room)
 
-abbrev pub lower-left : (file : List ℕ) → (numbers asked : ℕ) → (old : List ℕ) → List ℕ
-lower-left file numbers asked old = left (lowered file numbers asked (length old)) old
+abbrev pub lower-left : (file : List ℕ) → (lent asked : ℕ) → (old : List ℕ) → List ℕ
+lower-left file lent asked old = left (lowered file lent asked (length old)) old

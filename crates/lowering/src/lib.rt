@@ -4,8 +4,10 @@ use answers::Refusal;
 use answers::Verdict;
 use answers::Written;
 use rows::Use;
+use signatures::Signature;
+use verdict::Opening;
 ghost use mathlib.Core.Path.{_≡_};
-ghost use Prim.Native.Nat.{_+_, _-_, _*_, _≤_, _<_};
+ghost use Prim.Native.Nat.{ℕ, _+_, _-_, _*_, _≤_, _<_};
 ghost use lib.ListN.{length, drop, replicate};
 ghost use mathlib.Core.Bool.{_&&_};
 ghost use lib.Dec.{ltb};
@@ -13,7 +15,9 @@ ghost use Rattle.timeline.specs.Design.{built, class};
 ghost use Rattle.reader.specs.Rows.{row-in};
 ghost use Rattle.timetable.specs.States.{states};
 ghost use Rattle.timetable.specs.Bytes.{rows-bytes};
-ghost use Rattle.answers.specs.Answer.{written};
+ghost use Rattle.answers.specs.Answer.{written, judged};
+ghost use Rattle.signatures.specs.Rows.{zero-row};
+ghost use Rattle.verdict.specs.Judgement.{judgement, Filled};
 ghost use Rattle.groups.specs.Groups.{design-of, Opened};
 ghost use Rattle.lowering.specs.Answer.{component-rows, how-many, left, lower-answer, lower-left};
 ghost use Rattle.lowering.specs.Stands.{design, called, rows-called, all-rows, Stands, Begins, Use-of, end-in};
@@ -161,7 +165,7 @@ fn can_lower(rows: &[u16], components: usize, c: usize) -> bool
 {
     if c < components {
         let row = reader::row_of(rows, c);
-        return row.built;
+        return row.class != 0;
     }
     false
 }
@@ -190,16 +194,32 @@ fn lower_opened(
     refused(Fault::Absent, asked)
 }
 
-// The control rows of one component, sixteen bytes each: how many, or the first refusal. The table is zero after every call.
-pub fn lower(file: &[u8], table: &mut [u16], asked: usize, out: &mut [u8]) -> Written
-    ensures { λ r. ⌜ (written r ≡ lower-answer (now (file .entry)) (length (now (table .entry))) asked (length (now (out .entry)))) × (now (out .exit) ≡ lower-left (now (file .entry)) (length (now (table .entry))) asked (now (out .entry))) × (now (table .exit) ≡ replicate (length (now (table .entry))) 0) ⌝ }
+// Of a file that has been judged, with its verdict and rows.
+fn lower_judged(file: &[u8], o: Opening, asked: usize, out: &mut [u8]) -> Written
+    requires { ⌜ (length (o .rows) ≡ 320) × Filled (judged (o .verdict)) (now file) (o .rows) × ((lent : ℕ) × (judged (o .verdict) ≡ judgement (now file) lent)) ⌝ }
+    ensures { λ r. ⌜ ((lent : ℕ) → judged (o .verdict) ≡ judgement (now (file .entry)) lent → (written r ≡ lower-answer (now (file .entry)) lent asked (length (now (out .entry)))) × (now (out .exit) ≡ lower-left (now (file .entry)) lent asked (now (out .entry)))) ⌝ }
 {
-    let mut rows = [0u16; 320];
-    match verdict::open(file, table, &mut rows) {
+    let rows = o.rows;
+    let verdict = o.verdict;
+    match verdict {
         Verdict::Accepted {
             components,
             records,
         } => lower_opened(file, &rows, components, records, asked, out),
         Verdict::Refused(r) => Written::Refused(r),
     }
+}
+
+// The control rows of one component, sixteen bytes each: how many, or the first refusal. The table is zero after every call.
+pub fn lower(file: &[u8], table: &mut [Signature], asked: usize, out: &mut [u8]) -> Written
+    ensures { λ r. ⌜ (written r ≡ lower-answer (now (file .entry)) (length (now (table .entry))) asked (length (now (out .entry)))) × (now (out .exit) ≡ lower-left (now (file .entry)) (length (now (table .entry))) asked (now (out .entry))) × (now (table .exit) ≡ replicate (length (now (table .entry))) zero-row) ⌝ }
+{
+    lower_judged(file, verdict::opened(file, table), asked, out)
+}
+
+// For callers that lend no table.
+pub fn lower_alone(file: &[u8], asked: usize, out: &mut [u8]) -> Written
+    ensures { λ r. ⌜ (written r ≡ lower-answer (now (file .entry)) 64 asked (length (now (out .entry)))) × (now (out .exit) ≡ lower-left (now (file .entry)) 64 asked (now (out .entry))) ⌝ }
+{
+    lower_judged(file, verdict::open_alone(file), asked, out)
 }

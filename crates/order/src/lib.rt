@@ -1,6 +1,7 @@
 // The reader's place in the order of the records: a state by value, with a method for each kind of record.
 // `specs/Seen.antt` says which place of the theory it is.
 ghost use mathlib.Core.Path.{_≡_};
+ghost use mathlib.Core.Bool.{true};
 ghost use Prim.Native.Nat.{_<_};
 ghost use lib.Dec.{ltb};
 ghost use Rattle.timeline.specs.Design.{no-port, no-call, constant};
@@ -77,10 +78,12 @@ impl Place {
         self.built & ((self.due == 0) & (self.connections == 0))
     }
 
+    // Only a built component has arguments due.
     pub fn may_argument(self) -> bool
+        requires { ⌜ (0 < self .due → self .built ≡ true) ⌝ }
         ensures { λ r. ⌜ r ≡ may (seen self) (argument (constant 0)) ⌝ }
     {
-        self.built & (0 < self.due)
+        0 < self.due
     }
 
     pub fn may_connection(self) -> bool

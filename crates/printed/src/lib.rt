@@ -4,9 +4,8 @@ use answers::Written;
 
 // A component has at most 1,105 rows: one of its own, 64 invocations of 16 inputs each, 16 outputs. A leaf prints nothing.
 fn component(fd: i32, file: &[u8], c: usize) {
-    let mut table = [0u16; 320];
     let mut rows = [0u8; 17680];
-    match lowering::lower(file, &mut table, c, &mut rows) {
+    match lowering::lower_alone(file, c, &mut rows) {
         Written::Done(k) => lines::lowered_rows(fd, file, c, &rows, k),
         Written::Refused(_) => {}
     }
@@ -21,8 +20,7 @@ fn components(fd: i32, file: &[u8], count: usize) {
 
 // The control rows of every built component, or the refusal.
 pub fn lowered(fd: i32, file: &[u8]) {
-    let mut table = [0u16; 320];
-    match verdict::judge(file, &mut table) {
+    match verdict::judge_alone(file) {
         Verdict::Accepted {
             components: count,
             records: _,
@@ -33,9 +31,8 @@ pub fn lowered(fd: i32, file: &[u8]) {
 
 // The unit starts of component c, or the refusal.
 pub fn listed(fd: i32, file: &[u8], c: usize) {
-    let mut table = [0u16; 320];
     let mut rows = [0u8; 32768];
-    match listing::list(file, &mut table, c, &mut rows) {
+    match listing::list_alone(file, c, &mut rows) {
         Written::Done(k) => {
             lines::started_rows(fd, &rows, k);
             io::write_all(fd, b"end\n");
@@ -46,8 +43,7 @@ pub fn listed(fd: i32, file: &[u8], c: usize) {
 
 // The unit starts of the last component, or the refusal.
 pub fn last_listed(fd: i32, file: &[u8]) {
-    let mut table = [0u16; 320];
-    match verdict::judge(file, &mut table) {
+    match verdict::judge_alone(file) {
         Verdict::Accepted {
             components: count,
             records: _,

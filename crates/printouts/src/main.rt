@@ -12,9 +12,8 @@ enum Printed {
 }
 
 fn starts_of(file: &[u8], c: usize) {
-    let mut table = [0u16; 320];
     let mut rows = [0u8; 32768];
-    match listing::list(file, &mut table, c, &mut rows) {
+    match listing::list_alone(file, c, &mut rows) {
         Written::Done(k) => {
             io::write_all(STDOUT_FILENO, b"starts ");
             io::print_decimal(STDOUT_FILENO, k as u64);
@@ -26,8 +25,7 @@ fn starts_of(file: &[u8], c: usize) {
 
 // How many starts the last component has.
 fn count(file: &[u8]) {
-    let mut table = [0u16; 320];
-    match verdict::judge(file, &mut table) {
+    match verdict::judge_alone(file) {
         Verdict::Accepted {
             components,
             records: _,

@@ -15,7 +15,7 @@ use Rattle.rules.specs.Lowest.{lowest}
 use Rattle.order.specs.declared.Place.{Place}
 use Rattle.order.specs.Seen.{seen}
 use Rattle.reader.specs.declared.Reader.{Reader}
-use Rattle.reader.specs.declared.Signature.{Signature}
+use Rattle.signatures.specs.declared.Signature.{Signature}
 use Rattle.reader.specs.Rows.{row, none}
 use Rattle.reader.specs.State.{State, state, viewed, at-place, part-went, went, Turned}
 

@@ -96,6 +96,13 @@ module _ (look : ℕ → Port) where
     pub room-invocation : (v : Call) → lowest (part-tests look r (invocation v)) ≡ 0 → r .place .invocations < 64
     room-invocation v e = ltb→lt _ _ ((passes (part-tests look r (invocation v)) (part-numbered r (invocation v)) e) .1 .0)
 
+    pub invocation-built : (v : Call) → lowest (part-tests look r (invocation v)) ≡ 0 → r .place .built ≡ true
+    invocation-built v e = go (r .place .built) ((passes (part-tests look r (invocation v)) (part-numbered r (invocation v)) e) .0)
+      where
+        go : (b : Bool) → T (b && (eqb (r .place .due) 0 && eqb (r .place .connections) 0)) → b ≡ true
+        go true t = refl
+        go false t = absurd t
+
     pub argument-due : (x : Source) → lowest (part-tests look r (argument x)) ≡ 0 → 0 < r .place .due
     argument-due x e = go (r .place .built) ((passes (part-tests look r (argument x)) (part-numbered r (argument x)) e) .0)
       where

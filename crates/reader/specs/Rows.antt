@@ -6,16 +6,13 @@ use mathlib.Core.List.{List}
 use lib.ListN.{getD, set}
 use lib.Dec.{eqb}
 use Rattle.reading.specs.Reader.{Row}
-use Rattle.reader.specs.declared.Signature.{Signature}
+use Rattle.signatures.specs.declared.Signature.{Signature}
 
 abbrev pub row : Signature → Row
-row s = record { built = s .built; delay = s .delay; inputs = s .inputs; outputs = s .outputs; first = s .first }
+row s = record { built = not (eqb (s .class) 0); delay = s .delay; inputs = s .inputs; outputs = s .outputs; first = s .first }
 
 abbrev pub no-row : Row
 no-row = record { built = false; delay = 0; inputs = 0; outputs = 0; first = 0 }
-
-abbrev pub zero-row : Signature
-zero-row = record { built = false; delay = 0; inputs = 0; outputs = 0; first = 0 }
 
 abbrev pub none : ℕ → Row
 none c = no-row
@@ -35,9 +32,9 @@ row-in rows c =
       first = getD rows (5 * c + 4) 0;
     }
 
-unfoldable pub put-row : List ℕ → ℕ → Row → List ℕ
-put-row rows c w =
+unfoldable pub put-row : List ℕ → ℕ → Signature → List ℕ
+put-row rows c s =
     set
-    (set (set (set (set rows (5 * c) (bit (w .built))) (5 * c + 1) (w .delay)) (5 * c + 2) (w .inputs)) (5 * c + 3) (w .outputs))
+    (set (set (set (set rows (5 * c) (s .class)) (5 * c + 1) (s .delay)) (5 * c + 2) (s .inputs)) (5 * c + 3) (s .outputs))
     (5 * c + 4)
-    (w .first)
+    (s .first)

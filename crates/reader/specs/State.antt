@@ -47,13 +47,16 @@ state r held instances offsets outputs output-records =
       output-records = output-records;
     }
 
--- Of no invocation yet.
+-- Of no invocation yet; its instance is none.
 abbrev pub zeros : List ℕ
 zeros = replicate 64 0
 
+abbrev pub unnamed : List ℕ
+unnamed = replicate 64 65535
+
 -- A state of no instance and no invocation, with this reader.
 abbrev pub fresh : Reader → State
-fresh r = state r none zeros zeros zeros zeros
+fresh r = state r none unnamed zeros zeros zeros
 
 -- Before the first record.
 abbrev pub before : State
@@ -66,7 +69,7 @@ before =
       input-record = 0;
       due-offset = 0;
       held = none;
-      instances = zeros;
+      instances = unnamed;
       offsets = zeros;
       outputs = zeros;
       output-records = zeros;
@@ -109,7 +112,7 @@ begin k d p c =
       input-record = 0;
       due-offset = 0;
       held = none;
-      instances = zeros;
+      instances = unnamed;
       offsets = zeros;
       outputs = zeros;
       output-records = zeros;

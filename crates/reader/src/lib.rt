@@ -5,9 +5,11 @@ use records::Class;
 use records::Port;
 use records::Record;
 use records::Source;
+use signatures::Signature;
 ghost use mathlib.Core.Path.{_≡_};
 ghost use mathlib.Core.List.{[]};
-ghost use Prim.Native.Nat.{_+_, _-_, _*_, _≤_, _<_};
+ghost use mathlib.Core.Bool.{true};
+ghost use Prim.Native.Nat.{_+_, _-_, _*_, _≤_, _<_, min, max};
 ghost use lib.ListN.{length};
 ghost use Rattle.timeline.specs.Design.{leaf};
 ghost use Rattle.timeline.specs.Rules.{Source-range};
@@ -18,18 +20,11 @@ ghost use Rattle.reading.specs.Reads.{Ranged};
 ghost use Rattle.records.specs.Says.{says, source, port, class};
 ghost use Rattle.rules.specs.Lowest.{lowest};
 ghost use Rattle.rules.specs.Calls.{no-look};
+ghost use Rattle.rules.specs.Known.{Known};
 ghost use Rattle.look.specs.Look.{look};
 ghost use Rattle.reader.specs.Rows.{bit, row, row-in, put-row, none};
 ghost use Rattle.reader.specs.State.{state, fresh, before, begin, viewed, bare, own-row, opened, named, is-component, Few, Turned};
-
-// "One row for each component: class, delay, port counts, first record."
-pub struct Signature {
-    pub built: bool,
-    pub delay: u16,
-    pub inputs: u16,
-    pub outputs: u16,
-    pub first: u16,
-}
+ghost use Rattle.reader.specs.Noted.{Near, Noted};
 
 // Of the component that is being read; and while an argument is due, the record of the input that it feeds and the invocation's offset.
 pub struct Reader {
@@ -66,6 +61,18 @@ fn half(x: usize) -> u16
     x as u16
 }
 
+fn lesser(a: u16, b: u16) -> u16
+    ensures { λ r. ⌜ r ≡ min a b ⌝ }
+{
+    if a < b { a } else { b }
+}
+
+fn greater(a: u16, b: u16) -> u16
+    ensures { λ r. ⌜ r ≡ max a b ⌝ }
+{
+    if a < b { b } else { a }
+}
+
 fn bit(built: bool) -> u16
     ensures { λ r. ⌜ r ≡ bit built ⌝ }
 {
@@ -94,7 +101,7 @@ pub fn row_of(rows: &[u16], c: usize) -> Signature
 {
     let at = 5 * c;
     Signature {
-        built: rows[at] != 0,
+        class: rows[at],
         delay: rows[at + 1],
         inputs: rows[at + 2],
         outputs: rows[at + 3],
@@ -104,10 +111,10 @@ pub fn row_of(rows: &[u16], c: usize) -> Signature
 
 pub fn put_row(rows: &mut [u16], c: usize, s: Signature)
     requires { ⌜ 5 * c + 5 ≤ length (now rows) ⌝ }
-    ensures { λ _. ⌜ now (rows .exit) ≡ put-row (now (rows .entry)) c (row s) ⌝ }
+    ensures { λ _. ⌜ now (rows .exit) ≡ put-row (now (rows .entry)) c s ⌝ }
 {
     let at = 5 * c;
-    rows[at] = bit(s.built);
+    rows[at] = s.class;
     rows[at + 1] = s.delay;
     rows[at + 2] = s.inputs;
     rows[at + 3] = s.outputs;
@@ -128,25 +135,33 @@ fn input_refusal(r: Reader, p: Port) -> u8
     ensures { λ n. ⌜ n ≡ lowest (part-tests no-look (bare r) (input (port p))) ⌝ }
 {
     let place = r.place;
-    let short = rules::interval_kept(p, half(r.delay));
-    rules::first(
-        place.may_input(),
-        5,
-        rules::first(place.room_for_input(), 6, rules::first(short, 9, 0)),
-    )
+    if !place.may_input() {
+        return 5;
+    }
+    if !place.room_for_input() {
+        return 6;
+    }
+    if !rules::interval_kept(p, half(r.delay)) {
+        return 9;
+    }
+    0
 }
 
-fn output_refusal(r: Reader, p: Port) -> u8
+fn output_refusal(r: Reader, q: Port) -> u8
     requires { ⌜ Few r ⌝ }
-    ensures { λ n. ⌜ n ≡ lowest (part-tests no-look (bare r) (output (port p))) ⌝ }
+    ensures { λ n. ⌜ n ≡ lowest (part-tests no-look (bare r) (output (port q))) ⌝ }
 {
     let place = r.place;
-    let short = rules::interval_kept(p, half(r.delay));
-    rules::first(
-        place.may_output(),
-        5,
-        rules::first(place.room_for_output(), 6, rules::first(short, 9, 0)),
-    )
+    if !place.may_output() {
+        return 5;
+    }
+    if !place.room_for_output() {
+        return 6;
+    }
+    if !rules::interval_kept(q, half(r.delay)) {
+        return 9;
+    }
+    0
 }
 
 // c: the component that it is an instance of.
@@ -154,18 +169,19 @@ fn instance_refusal(r: Reader, c: u16) -> u8
     ensures { λ n. ⌜ n ≡ lowest (part-tests no-look (bare r) (instance c)) ⌝ }
 {
     let place = r.place;
-    rules::first(
-        place.may_instance(),
-        5,
-        rules::first(
-            place.room_for_instance(),
-            6,
-            rules::first(size(c) < r.number, 7, 0),
-        ),
-    )
+    if !place.may_instance() {
+        return 5;
+    }
+    if !place.room_for_instance() {
+        return 6;
+    }
+    if r.number <= size(c) {
+        return 7;
+    }
+    0
 }
 
-// n: its instance. k: its offset. v: the row of the component that it invokes.
+// n: its instance, whose invocations have offsets from `least` to `greatest`. k: its offset. v: the row of the component that it invokes.
 fn invocation_refusal(
     r: Reader,
     n: u16,
@@ -173,28 +189,30 @@ fn invocation_refusal(
     v: Signature,
     instances: &[u16; 64],
     offsets: &[u16; 64],
+    least: u16,
+    greatest: u16,
 ) -> u8
-    requires { ⌜ Few r ⌝ }
+    requires { ⌜ Few r × (k < 1024) × Known (now instances) (now offsets) (r .place .invocations) n least greatest ⌝ }
     ensures { λ x. ⌜ x ≡ lowest (part-tests no-look (viewed none (state r (λ m. row v) (now (instances .entry)) (now (offsets .entry)) [] [])) (invocation (record { instance = n; offset = k }))) ⌝ }
 {
     let place = r.place;
-    let may = place.may_invocation();
-    if 64 <= place.invocations {
-        return rules::first(may, 5, 6);
+    if !place.may_invocation() {
+        return 5;
     }
-    rules::first(
-        may,
-        5,
-        rules::invocation_refusal(
-            place.instances,
-            half(r.delay),
-            instances,
-            offsets,
-            place.invocations,
-            n,
-            k,
-            v.delay,
-        ),
+    if 64 <= place.invocations {
+        return 6;
+    }
+    rules::invocation_refusal(
+        place.instances,
+        half(r.delay),
+        instances,
+        offsets,
+        place.invocations,
+        n,
+        k,
+        v.delay,
+        least,
+        greatest,
     )
 }
 
@@ -210,20 +228,28 @@ fn source_refusal(
     outputs: &[u16; 64],
     firsts: &[u32; 64],
 ) -> u8
-    requires { ⌜ (Source-range (source x)) × Few r ⌝ }
+    requires { ⌜ (Source-range (source x)) × Few r × (24 ≤ length (now file)) × Near (now firsts) ⌝ }
     ensures { λ n. ⌜ n ≡ lowest (source-tests (look (now (file .entry))) (viewed none (state r none [] (now (offsets .entry)) (now (outputs .entry)) (now (firsts .entry)))) before (source x) (port q) k) ⌝ }
 {
     match x {
         Source::Own(i) => {
             let place = r.place;
-            let p = look::port_at(file, r.first + 1 + size(i));
-            rules::fed_refusal(size(i) < place.inputs, p, 0, q, k)
+            if place.inputs <= size(i) {
+                return 7;
+            }
+            let p = look::port_in(file, r.first + 1 + size(i));
+            rules::fed_refusal(p, 0, q, k)
         }
         Source::Output(j, o) => {
             let at = size(j);
-            let p = look::port_at(file, size32(firsts[at]) + size(o));
-            let there = (at < before) & (o < outputs[at]);
-            rules::fed_refusal(there, p, offsets[at], q, k)
+            if before <= at {
+                return 7;
+            }
+            if outputs[at] <= o {
+                return 7;
+            }
+            let p = look::port_in(file, size32(firsts[at]) + size(o));
+            rules::fed_refusal(p, offsets[at], q, k)
         }
         Source::Constant(v) => rules::constant_refusal(v, q),
     }
@@ -237,27 +263,25 @@ fn argument_refusal(
     outputs: &[u16; 64],
     firsts: &[u32; 64],
 ) -> u8
-    requires { ⌜ (Source-range (source x)) × Few r × (r .input < 1048576) ⌝ }
+    requires { ⌜ (Source-range (source x)) × Few r × (r .input < 1048576) × (0 < r .place .due → r .place .built ≡ true) × (24 ≤ length (now file)) × Near (now firsts) ⌝ }
     ensures { λ n. ⌜ n ≡ lowest (part-tests (look (now (file .entry))) (viewed none (state r none [] (now (offsets .entry)) (now (outputs .entry)) (now (firsts .entry)))) (argument (source x))) ⌝ }
 {
     let place = r.place;
-    // The remainder changes nothing: it tells the compiler how small the number is.
-    let q = look::port_at(file, r.input % 1048576);
+    if !place.may_argument() {
+        return 5;
+    }
+    let q = look::port_in(file, r.input);
     let before = one_less(place.invocations);
-    rules::first(
-        place.may_argument(),
-        5,
-        source_refusal(
-            file,
-            r,
-            before,
-            x,
-            q,
-            half(r.offset),
-            offsets,
-            outputs,
-            firsts,
-        ),
+    source_refusal(
+        file,
+        r,
+        before,
+        x,
+        q,
+        half(r.offset),
+        offsets,
+        outputs,
+        firsts,
     )
 }
 
@@ -269,25 +293,24 @@ fn connection_refusal(
     outputs: &[u16; 64],
     firsts: &[u32; 64],
 ) -> u8
-    requires { ⌜ (Source-range (source x)) × Few r ⌝ }
+    requires { ⌜ (Source-range (source x)) × Few r × (24 ≤ length (now file)) × Near (now firsts) ⌝ }
     ensures { λ n. ⌜ n ≡ lowest (part-tests (look (now (file .entry))) (viewed none (state r none [] (now (offsets .entry)) (now (outputs .entry)) (now (firsts .entry)))) (connection (source x))) ⌝ }
 {
     let place = r.place;
-    let q = look::port_at(file, r.first + 1 + place.inputs + place.connections);
-    rules::first(
-        place.may_connection(),
-        5,
-        source_refusal(
-            file,
-            r,
-            place.invocations,
-            x,
-            q,
-            0,
-            offsets,
-            outputs,
-            firsts,
-        ),
+    if !place.may_connection() {
+        return 5;
+    }
+    let q = look::port_in(file, r.first + 1 + place.inputs + place.connections);
+    source_refusal(
+        file,
+        r,
+        place.invocations,
+        x,
+        q,
+        0,
+        offsets,
+        outputs,
+        firsts,
     )
 }
 
@@ -331,7 +354,7 @@ pub fn own_row(r: Reader) -> Signature
 {
     let place = r.place;
     Signature {
-        built: place.built,
+        class: bit(place.built),
         delay: half(r.delay),
         inputs: half(place.inputs),
         outputs: half(place.outputs),
@@ -381,6 +404,7 @@ fn answered(refusal: u8, reader: Reader) -> Outcome
 }
 
 // Record number p. v: the row of the instance that it names. A component record is looked at only for its refusal.
+// least, greatest: of each instance, what the offsets of its invocations lie between.
 pub fn turn(
     file: &[u8],
     r: Reader,
@@ -391,9 +415,11 @@ pub fn turn(
     offsets: &mut [u16; 64],
     outputs: &mut [u16; 64],
     firsts: &mut [u32; 64],
+    least: &mut [u16; 32],
+    greatest: &mut [u16; 32],
 ) -> Outcome
-    requires { ⌜ Ranged (says x) × Few r × (r .input ≤ 65536 + p) ⌝ }
-    ensures { λ t. ⌜ Turned (look (now (file .entry))) (state r (λ m. row v) (now (instances .entry)) (now (offsets .entry)) (now (outputs .entry)) (now (firsts .entry))) p (says x) (t .refusal) (state (t .reader) (λ m. row v) (now (instances .exit)) (now (offsets .exit)) (now (outputs .exit)) (now (firsts .exit))) ⌝ }
+    requires { ⌜ Ranged (says x) × Few r × (r .input ≤ 65536 + p) × (24 ≤ length (now file)) × Noted r (now instances) (now offsets) (now firsts) (now least) (now greatest) ⌝ }
+    ensures { λ t. ⌜ Noted (t .reader) (now (instances .exit)) (now (offsets .exit)) (now (firsts .exit)) (now (least .exit)) (now (greatest .exit)) × Turned (look (now (file .entry))) (state r (λ m. row v) (now (instances .entry)) (now (offsets .entry)) (now (outputs .entry)) (now (firsts .entry))) p (says x) (t .refusal) (state (t .reader) (λ m. row v) (now (instances .exit)) (now (offsets .exit)) (now (outputs .exit)) (now (firsts .exit))) ⌝ }
 {
     match x {
         Record::Component(_, _) => answered(component_refusal(r), r),
@@ -422,7 +448,10 @@ pub fn turn(
             answered(0, moved(r, place.instance()))
         }
         Record::Invocation(n, k) => {
-            let no = invocation_refusal(r, n, k, v, instances, offsets);
+            let at = size(n);
+            let high = greatest[at];
+            let low = least[at];
+            let no = invocation_refusal(r, n, k, v, instances, offsets, low, high);
             if no != 0 {
                 return answered(no, r);
             }
@@ -430,6 +459,8 @@ pub fn turn(
             let j = place.invocations;
             instances[j] = n;
             offsets[j] = k;
+            greatest[at] = greater(high, k);
+            least[at] = lesser(low, k);
             outputs[j] = v.outputs;
             firsts[j] = wide(v.first) + 1 + wide(v.inputs);
             answered(

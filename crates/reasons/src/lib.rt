@@ -6,6 +6,7 @@ mod sources;
 use found::Standing;
 use parts::NONE;
 use records::Record;
+use records::Source;
 
 pub fn number(fd: i32, x: usize) {
     io::print_decimal(fd, x as u64);
@@ -92,6 +93,17 @@ fn too_many(fd: i32, list: &[u8], p: usize) {
     io::write_all(fd, b" too many");
 }
 
+// An output may also be that of a later invocation.
+fn late(fd: i32, source: Source) {
+    match source {
+        Source::Own(_) => {}
+        Source::Output(_, _) => {
+            io::write_all(fd, b", or comes too late for an argument here");
+        }
+        Source::Constant(_) => {}
+    }
+}
+
 // 7
 fn reference(fd: i32, list: &[u8], s: Standing) {
     match parts::record(list, s.record) {
@@ -111,7 +123,8 @@ fn reference(fd: i32, list: &[u8], s: Standing) {
         Record::Argument(a) => {
             let source = a.source;
             sources::name(fd, source);
-            io::write_all(fd, b" is absent, or comes too late for an argument here");
+            io::write_all(fd, b" is absent");
+            late(fd, source);
         }
         Record::Connection(source) => {
             sources::name(fd, source);

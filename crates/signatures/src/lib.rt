@@ -1,6 +1,6 @@
 // The lent table: "one row for each component: class, delay, port counts, first record". Thin functions that read a row, store one, and set all of them to zero.
 ghost use mathlib.Core.Path.{_≡_};
-ghost use Prim.Native.Nat.{_<_};
+ghost use Prim.Native.Nat.{_+_, _<_};
 ghost use lib.ListN.{length, set, getD, replicate};
 ghost use Rattle.signatures.specs.Rows.{zero-row};
 

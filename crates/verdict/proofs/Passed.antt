@@ -16,7 +16,8 @@ use Rattle.entry.specs.Answers as Entry
 use Rattle.entry.specs.Verdict.{verdict}
 use Rattle.entry.specs.Main.{accepted-exactly, its-records}
 use Rattle.verdict.proofs.Whole.{length-from}
-use Rattle.verdict.specs.Judgement.{records-of, counts, judgement}
+use Rattle.look.specs.Listed.{records-of}
+use Rattle.verdict.specs.Judgement.{counts, judgement}
 
 pub record Passed (file : List ℕ) (c r : ℕ) : Type 0 where
   pub count : ℕ
@@ -29,9 +30,9 @@ counted (Entry.accepted d s) c r e =
     ap (λ (x : Counts). Entry.accepted (x .components) (x .records)) k
 counted (Entry.refused n p) c r e = absurd (let z : _≡_ {A = ℕ} 0 1 = cc in omega arith)
 
-pub passed : (file : List ℕ) (numbers c r : ℕ) → judgement file numbers ≡ accepted (record { components = c; records = r }) → Passed file c r
+pub passed : (file : List ℕ) (rows c r : ℕ) → judgement file rows ≡ accepted (record { components = c; records = r }) → Passed file c r
 unfolding judgement
-passed file numbers c r e = go (ltb numbers 320) (sound file) refl e
+passed file rows c r e = go (ltb rows 64) (sound file) refl e
   where
     go : (t : Bool) (a : Answer ℕ) → sound file ≡ a
         → _≡_ {A = Answer Counts} (cond t (refused 13 0) (then a (λ (n : ℕ). counts (verdict (records-of file n))))) (accepted (record { components = c; records = r })) → Passed file c r
@@ -39,9 +40,9 @@ passed file numbers c r e = go (ltb numbers 320) (sound file) refl e
     go false (accepted n) q e = record { count = n; blocks = q; rules = counted (verdict (records-of file n)) c r e }
     go false (refused n p) q e = absurd (let z : _≡_ {A = ℕ} 0 1 = cc in omega arith)
 
-pub enough-rows : (file : List ℕ) (numbers : ℕ) (k : Counts) → judgement file numbers ≡ accepted k → ltb numbers 320 ≡ false
+pub enough-rows : (file : List ℕ) (rows : ℕ) (k : Counts) → judgement file rows ≡ accepted k → ltb rows 64 ≡ false
 unfolding judgement
-enough-rows file numbers k e = go (ltb numbers 320) e
+enough-rows file rows k e = go (ltb rows 64) e
   where
     go : (t : Bool) → _≡_ {A = Answer Counts} (cond t (refused 13 0) (then (sound file) (λ (n : ℕ). counts (verdict (records-of file n))))) (accepted k) → t ≡ false
     go true e = absurd (let z : _≡_ {A = ℕ} 0 1 = cc in omega arith)

@@ -1,41 +1,58 @@
 -- The invariant of the loop over the components, and how each of them carries it on: the table shows the rows of the components before.
 -- Assumes nothing.
-use Prim.Native.Nat.{ℕ, zero, suc, _+_, _-_, _≤_, _<_}
+use Prim.Native.Nat.{ℕ, zero, suc, _+_, _-_, _*_, _/_, _≤_, _<_}
 use mathlib.Core.Bool.{Bool, true, false, cond}
 use mathlib.Core.Path.{_≡_, refl, sym, ap, _∙_, subst}
-use mathlib.Core.List.{List, [], _∷_}
+use mathlib.Core.List.{List}
 use mathlib.Core.Logic.{_≢_}
 use native.Mathlib.Omega.{arith}
 use native.Mathlib.Decide.{ℕ-discrete}
-use lib.ListN.{length, getD, take}
-use lib.Seq.{getD-take}
+use lib.ListN.{length}
 use lib.Dec.{eqb}
-use borrow.Author.Tests.{eq-eqb, ne-eqb}
+use borrow.Author.Tests.{eq-eqb, ne-eqb, le-ltb}
 use Rattle.timeline.specs.Design as Design
+use Rattle.answers.specs.Answer as Answers
 use Rattle.answers.specs.Answer.{Answer, Counts}
+use Rattle.numbers.specs.Numbers.{Bytes}
+use Rattle.blocks.specs.File.{sound}
 use Rattle.entry.specs.Numbers.{component-number}
 use Rattle.entry.specs.Entered.{design}
 use Rattle.entry.specs.Answers.{accepted, refused}
+use Rattle.entry.specs.Verdict.{verdict}
 use Rattle.entry.specs.Main.{accepted-exactly, the-design}
 use Rattle.reading.specs.Changed.{changed, changed-there, changed-below}
 use Rattle.reading.specs.Reader.{Row}
 use Rattle.reading.specs.Table.{Table-of, Row-of, table}
-use Rattle.reader.specs.declared.Signature.{Signature}
-use Rattle.reader.specs.Rows.{row, row-in, none, zero-row}
+use Rattle.reader.specs.Rows.{row, none}
 use Rattle.reader.specs.State.{fresh, before, own-row}
-use Rattle.verdict.specs.declared.Progress.{Progress}
-use Rattle.verdict.specs.declared.Ended.{Ended}
-use Rattle.verdict.specs.Judgement.{records-of, counts, Filled}
-use Rattle.verdict.specs.Run.{Run, waits, view, rest, Onward}
-use Rattle.verdict.specs.Ahead.{ahead}
-use Rattle.verdict.specs.Component.{Begun, Begins, with-row, run, Holds-rows, Goes, Stops, Read}
-use Rattle.verdict.proofs.Turns.{stay, further}
+use Rattle.look.specs.Listed.{records-of}
+use Rattle.component.specs.declared.Progress.{Progress}
+use Rattle.component.specs.declared.Ended.{Ended}
+use Rattle.component.specs.Run.{Run, waits, view, rest, Onward}
+use Rattle.component.specs.Component.{Begun as Begun-at, Begins, with-row, run, Goes, Stops, Read}
+use Rattle.component.proofs.Turns.{stay, further}
+use Rattle.verdict.specs.declared.Begun.{Begun}
+use Rattle.verdict.specs.Judgement.{counts, judgement, Fills}
+use Rattle.verdict.specs.Started.{said, Starts}
+use Rattle.verdict.proofs.Counts.{count-bounds}
 use Rattle.verdict.proofs.Whole.{Holds, whole, rows-right}
 
-take-short : (k : ℕ) (l : List ℕ) → length (take k l) ≤ k
-take-short zero l = omega arith
-take-short (suc k) [] = omega arith
-take-short (suc k) (x ∷ l) = let y = take-short k l in omega arith
+judged-so : (file : List ℕ) (rows n : ℕ) → 64 ≤ rows → sound file ≡ Answers.accepted n → judgement file rows ≡ counts (verdict (records-of file n))
+unfolding judgement
+judged-so file rows n l e = rw (le-ltb rows 64 l, e)
+
+small-number : {m : ℕ} → (m ≢ 0 → (4 ≤ m) × (m ≤ 12)) → m ≤ 14
+small-number {m} h = go (ℕ-discrete m 0)
+  where
+    go : Dec (m ≡ 0) → m ≤ 14
+    go (yes z) = omega arith
+    go (no z) = let y = (h z) .1 in omega arith
+
+module _ (n : ℕ) where
+  -- How much is left.
+  abbrev pub left : (goes : Bool) → (at : ℕ) → ℕ
+  left true at = suc (n - at)
+  left false at = 0
 
 module _ (file : List ℕ) (n : ℕ) where
   -- The table shows f.
@@ -55,43 +72,26 @@ module _ (file : List ℕ) (n : ℕ) where
   Reached true f q = Going f q
   Reached false f q = Done f q
 
-  pub reached-first : (f : ℕ → Row) (q : Progress) → fresh (q .reader) ≡ before → q .at ≡ 0 → q .count ≡ 0 → q .goes ≡ true → Reached (q .goes) f q
-  reached-first f q e a c g =
-      subst (λ (b : Bool). Reached b f q) (sym g)
-      (record {
+  pub reached-first : (f : ℕ → Row) (q : Progress) → fresh (q .reader) ≡ before → q .at ≡ 0 → q .count ≡ 0 → Going f q
+  reached-first f q e a c =
+      record {
         within = omega arith;
-        begins = subst (λ (m : ℕ). Begun m (q .count) (fresh (q .reader))) (sym a) (c, e);
+        begins = subst (λ (m : ℕ). Begun-at m (q .count) (fresh (q .reader))) (sym a) (c, e);
         rows = none;
         shows = λ m l. absurd (omega arith);
         onward = rw a (stay file n waits 0);
-      })
-
-  -- What is gathered from the table is what is to be held.
-  pub gathers : (f rows : ℕ → Row) (held : List Signature) (components : List ℕ) (count at number : ℕ) → take count components ≡ ahead file (n - at) at 0 → ((c : ℕ) → c < number → f c ≡ rows c)
-      → ((m : ℕ) → m < count → row (getD held m zero-row) ≡ f (getD components m 0)) → (m : ℕ) → m < length (take count components) → m < count → getD (take count components) m 0 < number → row (getD held m zero-row) ≡ rows (getD (take count components) m 0)
-  gathers f rows held components count at number e s g m b l k =
-      let y : getD (take count components) m 0 ≡ getD components m 0 = getD-take count components m 0 l in
-      g m l ∙ ap f (sym y) ∙ s (getD (take count components) m 0) k
-
-  -- How much is left.
-  abbrev pub left : (goes : Bool) → (at : ℕ) → ℕ
-  left true at = suc (n - at)
-  left false at = 0
+      }
 
   -- One component more. f′: what the table then shows.
-  module _ (few : Holds file n) (f : ℕ → Row) (q : Progress) (here : Going f q) (held : List Signature) (components : List ℕ) (count : ℕ) (asked : take count components ≡ ahead file (n - q .at) (q .at) 0)
-      (holds : (m : ℕ) → m < count → row (getD held m zero-row) ≡ f (getD components m 0)) (e : Ended) (place : e .place ≡ q .count - 1)
-      (read : (rows : ℕ → Row) → Holds-rows file n rows (q .at) (q .count - 1) held → Read file n (e .progress .goes) rows q e) where
+  module _ (few : Holds file n) (f : ℕ → Row) (q : Progress) (here : Going f q) (e : Ended) (place : e .place ≡ q .count - 1)
+      (read : (rows : ℕ → Row) → ((c : ℕ) → c < q .count - 1 → f c ≡ rows c) → Read file n (e .progress .goes) rows q e) where
     done : Read file n (e .progress .goes) (here .rows) q e
-    done =
-        read (here .rows)
-        (subst (λ (all : List ℕ). (m : ℕ) → m < length all → getD all m 0 < q .count - 1 → row (getD held m zero-row) ≡ here .rows (getD all m 0)) asked
-        (λ m b k. gathers f (here .rows) held components count (q .at) (q .count - 1) asked (here .shows) holds m b (let y = take-short count components in omega arith) k))
+    done = read (here .rows) (here .shows)
 
-    pub less : left (e .progress .goes) (e .progress .at) < suc (n - q .at)
+    pub less : left n (e .progress .goes) (e .progress .at) < suc (n - q .at)
     less = go (e .progress .goes) done
       where
-        go : (b : Bool) → Read file n b (here .rows) q e → left b (e .progress .at) < suc (n - q .at)
+        go : (b : Bool) → Read file n b (here .rows) q e → left n b (e .progress .at) < suc (n - q .at)
         go true r = let l = r .later in let m = r .within in omega arith
         go false r = omega arith
 
@@ -149,9 +149,59 @@ module _ (file : List ℕ) (n : ℕ) where
           go false r = stops r
 
 -- What the table of an accepted file is left with.
-pub filled-done : (file l : List ℕ) (n : ℕ) (q : Progress) → Done file n (λ c. row-in l c) q → (a : Answer Counts) → a ≡ counts (cond (eqb (q .refusal) 0) (accepted (q .count) (q .at)) (refused (q .refusal) (q .at))) → Filled a file l
-filled-done file l n q d a e = go (ℕ-discrete (q .refusal) 0)
+filled-done : (file : List ℕ) (f : ℕ → Row) (n : ℕ) (q : Progress) → Done file n f q → (a : Answer Counts) → a ≡ said q → Fills a file f
+filled-done file f n q d a e = go (ℕ-discrete (q .refusal) 0)
   where
-    go : Dec (q .refusal ≡ 0) → Filled a file l
+    go : Dec (q .refusal ≡ 0) → Fills a file f
     go (yes z) = let w = d .filled z in rw (e, eq-eqb (q .refusal) 0 z, w .0) (w .1)
     go (no z) = rw (e, ne-eqb (q .refusal) 0 z) tt
+
+module _ (file : List ℕ) (rows n : ℕ) where
+  -- Of a table with enough rows and sound blocks.
+  pub record Working (f : ℕ → Row) (q : Progress) : Type 0 where
+    pub enough : 64 ≤ rows
+    pub counted : sound file ≡ Answers.accepted n
+    pub small : Bytes file
+    pub going : Going file n f q
+
+  pub record Finished (f : ℕ → Row) (q : Progress) : Type 0 where
+    pub answer : judgement file rows ≡ said q
+    pub numbered : q .refusal ≤ 14
+    pub fills : Fills (judgement file rows) file f
+
+  abbrev pub Stands : (goes : Bool) → (ℕ → Row) → Progress → Type 0
+  Stands true f q = Working f q
+  Stands false f q = Finished f q
+
+  pub stands-needs : {f : ℕ → Row} {q : Progress} → Stands true f q → (64 ≤ rows) × (1 ≤ n) × (n ≤ 3968) × (n ≤ 31 * (length file / 512)) × (q .at ≤ n) × Begins q
+  stands-needs w =
+      let b = count-bounds file n (w .counted) in
+      (w .enough, b .0, b .1, b .2, w .going .within, w .going .begins)
+
+  module _ {f : ℕ → Row} {q : Progress} (here : Stands true f q) (e : Ended) (place : e .place ≡ q .count - 1) (read : (known : ℕ → Row) → ((c : ℕ) → c < q .count - 1 → f c ≡ known c) → Read file n (e .progress .goes) known q e) where
+    holds : Holds file n
+    holds = let b = count-bounds file n (here .counted) in record { within = b .2; few = b .1; small = here .small }
+
+    pub stands-less : left n (e .progress .goes) (e .progress .at) < left n true (q .at)
+    stands-less = less file n holds f q (here .going) e place read
+
+    pub stands-next : (f′ : ℕ → Row) → ((c : ℕ) → f′ c ≡ changed f (e .place) (row (e .row)) c) → Stands (e .progress .goes) f′ (e .progress)
+    stands-next f′ stored = go (e .progress .goes) (reached-next file n holds f q (here .going) e place read f′ stored)
+      where
+        go : (b : Bool) → Reached file n b f′ (e .progress) → Stands b f′ (e .progress)
+        go true r = record { enough = here .enough; counted = here .counted; small = here .small; going = r }
+        go false r =
+            let y : judgement file rows ≡ said (e .progress) = judged-so file rows n (here .enough) (here .counted) ∙ ap counts (whole file n holds ∙ r .answer) in
+            record { answer = y; numbered = small-number (r .range); fills = filled-done file f′ n (e .progress) r (judgement file rows) y }
+
+  pub stands-done : {f : ℕ → Row} {q : Progress} → Stands false f q → (judgement file rows ≡ said q) × (q .refusal ≤ 14) × Fills (judgement file rows) file f
+  stands-done w = (w .answer, w .numbered, w .fills)
+
+pub stands-first : (file : List ℕ) (rows : ℕ) → Bytes file → (b : Begun) → Starts file rows b (b .progress .goes) → (f : ℕ → Row) → Stands file rows (b .records) (b .progress .goes) f (b .progress)
+stands-first file rows small b s f = go (b .progress .goes) refl s
+  where
+    go : (g : Bool) → b .progress .goes ≡ g → Starts file rows b g → Stands file rows (b .records) g f (b .progress)
+    go true e t = record { enough = t .enough; counted = t .counted; small = small; going = reached-first file (b .records) f (b .progress) (t .reader) (t .at) (t .count) }
+    go false e t =
+        let z : b .progress .refusal ≢ 0 = λ y. absurd (let h = t .numbered .0 in omega arith) in
+        record { answer = t .answer; numbered = t .numbered .1; fills = subst (λ (a : Answer Counts). Fills a file f) (sym (t .answer)) (rw (ne-eqb (b .progress .refusal) 0 z) tt) }

@@ -1,10 +1,9 @@
 -- The records of a file are the sixteens of the list that unpacking gives back.
 -- Assumes nothing.
 use Prim.Native.Nat.{ℕ, _*_, _<_}
-use mathlib.Core.Path.{_≡_, refl}
+use mathlib.Core.Path.{_≡_}
 use mathlib.Core.List.{List}
 use lib.ListN.{take, drop}
-use lib.Dec.{ltb}
 use borrow.Author.Tests.{lt-ltb}
 use Rattle.answers.specs.Answer.{accepted}
 use Rattle.blocks.specs.File.{sound, record-answer}

@@ -19,9 +19,9 @@ use Rattle.blocks.specs.File.{record-place}
 use Rattle.records.specs.Decoded.{decoded}
 use Rattle.look.specs.Look.{sixteen, look}
 use Rattle.look.proofs.Laws.{decoded-ranged, sixteen-small, look-is, input-port, output-port}
-use Rattle.verdict.specs.Judgement.{sixteens, records-of}
-use Rattle.verdict.specs.Run.{Run, waits, view, next, Own, rest, last}
-use Rattle.verdict.proofs.Keeps.{own-next}
+use Rattle.look.specs.Listed.{sixteens, records-of}
+use Rattle.component.specs.Run.{Run, waits, view, next, Own, rest, last}
+use Rattle.component.proofs.Keeps.{own-next}
 
 -- What is known of the bytes: n records stand in them.
 pub record Holds (file : List ℕ) (n : ℕ) : Type 0 where

@@ -1,47 +1,41 @@
-// The verdict on a file: its blocks, then its records one after the other, with a lent table of one row for each component.
+// The verdict on a file: its blocks, then its records component by component, with a lent table of one row for each component.
+// The functions that hold the table do nothing else; whatever is decided is decided by functions on values.
 use answers::Counted;
 use answers::Fault;
 use answers::Refusal;
 use answers::Verdict;
-use reader::Reader;
-use reader::Signature;
-use records::Record;
+use component::Ended;
+use component::Progress;
+use component::Wanted;
+use signatures::Signature;
 ghost use mathlib.Core.Path.{_≡_};
-ghost use mathlib.Core.Bool.{true, false, cond};
-ghost use mathlib.Core.Logic.{_≢_};
+ghost use mathlib.Core.Bool.{true, false};
 ghost use Prim.Native.Nat.{ℕ, _+_, _-_, _*_, _/_, _≤_, _<_};
-ghost use lib.ListN.{length, getD, take, replicate};
-ghost use lib.Dec.{eqb};
+ghost use lib.ListN.{length, replicate};
 ghost use Rattle.answers.specs.Answer.{number, judged};
-ghost use Rattle.entry.specs.Answers.{accepted, refused};
 ghost use Rattle.reading.specs.Reader.{Row};
-ghost use Rattle.records.specs.Says.{says};
-ghost use Rattle.reader.specs.Rows.{row, row-in, put-row, zero-row};
-ghost use Rattle.reader.specs.State.{fresh, before, own-row, opened, Few};
-ghost use Rattle.verdict.specs.Judgement.{counts, judgement, Filled, copied};
-ghost use Rattle.verdict.specs.Run.{waits, rest};
-ghost use Rattle.verdict.specs.Ahead.{ahead};
-ghost use Rattle.verdict.specs.Component.{Begins, Holds-rows, Read};
+ghost use Rattle.signatures.specs.Rows.{zero-row};
+ghost use Rattle.component.specs.Component.{Begins, Read};
+ghost use Rattle.component.specs.Wanted.{wanted, Sound, gathered};
+ghost use Rattle.verdict.specs.Judgement.{judgement, shown, Fills, Filled};
+ghost use Rattle.verdict.specs.Started.{said, Starts};
 
-fn half(x: usize) -> u16
-    requires { ⌜ x < 65536 ⌝ }
+fn small(x: u64) -> u8
+    requires { ⌜ x < 256 ⌝ }
     ensures { λ r. ⌜ r ≡ x ⌝ }
 {
-    x as u16
-}
-
-fn size(x: u16) -> usize
-    ensures { λ r. ⌜ (r ≡ x) × (r < 65536) ⌝ }
-{
-    x as usize
+    x as u8
 }
 
 // The refusal with a number.
 fn fault(n: u8) -> Fault
-    requires { ⌜ (4 ≤ n) × (n ≤ 12) ⌝ }
+    requires { ⌜ (1 ≤ n) × (n ≤ 14) ⌝ }
     ensures { λ r. ⌜ number r ≡ n ⌝ }
 {
     match n {
+        1 => Fault::Length,
+        2 => Fault::Check,
+        3 => Fault::Header,
         4 => Fault::Record,
         5 => Fault::Place,
         6 => Fault::TooMany,
@@ -50,211 +44,63 @@ fn fault(n: u8) -> Fault
         9 => Fault::Interval,
         10 => Fault::Spacing,
         11 => Fault::Span,
-        _ => Fault::Reading,
+        12 => Fault::Reading,
+        13 => Fault::Room,
+        _ => Fault::Absent,
     }
 }
 
-fn refused(fault: Fault, position: usize) -> Verdict
-    ensures { λ r. ⌜ r ≡ Verdict.Refused (record { fault = fault; position = position }) ⌝ }
-{
-    Verdict::Refused(Refusal { fault, position })
-}
-
-// How far the reading has come: the component that is being read, the record that is next, how many components have begun.
-// Where it goes no further, `at` is the position of a refusal with this number; 0 for none.
-pub struct Progress {
-    pub reader: Reader,
-    pub at: usize,
-    pub count: usize,
-    pub refusal: u8,
-    pub goes: bool,
-}
-
-// A component that has been read: its row, and the row's place.
-pub struct Ended {
+// How many records a file has, and the reading before the first of them.
+pub struct Begun {
+    pub records: usize,
     pub progress: Progress,
-    pub place: usize,
-    pub row: Signature,
 }
 
-// The components that so many instances are made of.
-pub struct Asked {
-    pub components: [u16; 32],
-    pub count: usize,
-}
-
-// Their rows.
-pub struct Held {
-    pub rows: [Signature; 32],
-}
-
-// What the instances of the component whose records come next are made of, as far as they can be told before they are judged.
-fn ask(file: &[u8], n: usize, at: usize) -> Asked
-    requires { ⌜ (at ≤ n) × (n ≤ 3968) × (n ≤ 31 * (length (now file) / 512)) ⌝ }
-    ensures { λ a. ⌜ (a .count ≤ 32) × (length (a .components) ≡ 32) × (take (a .count) (a .components) ≡ ahead (now (file .entry)) (n - at) at 0) ⌝ }
+// A verdict without any reading.
+fn not_begun(refusal: u8, position: usize) -> Begun
+    ensures { λ b. ⌜ (b .progress .refusal ≡ refusal) × (b .progress .at ≡ position) × (b .progress .goes ≡ false) ⌝ }
 {
-    let mut components = [0u16; 32];
-    let mut count = 0;
-    let mut i = at;
-    while i < n {
-        let kind = look::kind_at(file, i);
-        if kind == 2 {
-            i += 1;
-        } else {
-            let c = look::first_number_at(file, i);
-            if (kind != 3) | ((64 <= c) | (32 <= count)) {
-                return Asked { components, count };
-            }
-            components[count] = c;
-            count += 1;
-            i += 1;
-        }
-    }
-    Asked { components, count }
-}
-
-fn hold(table: &[u16], a: Asked) -> Held
-    requires { ⌜ (320 ≤ length (now table)) × (a .count ≤ 32) × ((m : ℕ) → m < a .count → getD (a .components) m 0 < 64) ⌝ }
-    ensures { λ h. ⌜ ((m : ℕ) → m < a .count → row (getD (h .rows) m zero-row) ≡ row-in (now (table .entry)) (getD (a .components) m 0)) ⌝ }
-{
-    let count = a.count;
-    let none = Signature {
-        built: false,
-        delay: 0,
-        inputs: 0,
-        outputs: 0,
-        first: 0,
-    };
-    let mut rows = [none; 32];
-    let mut i = 0;
-    while i < count {
-        let c = a.components[i];
-        rows[i] = reader::row_of(table, size(c));
-        i += 1;
-    }
-    Held { rows }
-}
-
-// The reading stops at this position.
-fn stopped(r: Reader, count: usize, at: usize, refusal: u8) -> Ended
-    requires { ⌜ Few r ⌝ }
-    ensures { λ e. ⌜ (e .progress ≡ record { reader = r; at = at; count = count; refusal = refusal; goes = false }) × (e .place ≡ r .number) × (row (e .row) ≡ own-row (fresh r)) ⌝ }
-{
-    Ended {
+    Begun {
+        records: 0,
         progress: Progress {
-            reader: r,
-            at,
-            count,
+            reader: reader::start(),
+            at: position,
+            count: 0,
             refusal,
             goes: false,
         },
-        place: r.number,
-        row: reader::own_row(r),
     }
 }
 
-// The reading goes on with the component that record x, before number `at`, begins.
-fn goes_on(r: Reader, x: Record, count: usize, at: usize) -> Ended
-    requires { ⌜ Few r × (1 ≤ at) × (at ≤ 3968) × (count < 64) ⌝ }
-    ensures { λ e. ⌜ (fresh (e .progress .reader) ≡ opened (says x) (at - 1) count) × (e .progress .at ≡ at) × (e .progress .count ≡ count + 1) × (e .progress .goes ≡ true) × (e .place ≡ r .number) × (row (e .row) ≡ own-row (fresh r)) ⌝ }
+// The table's length, then the blocks.
+fn begin(file: &[u8], rows: usize) -> Begun
+    ensures { λ b. ⌜ Starts (now (file .entry)) rows b (b .progress .goes) ⌝ }
 {
-    Ended {
-        progress: Progress {
-            reader: reader::opened(x, half(at - 1), count),
-            at,
-            count: count + 1,
-            refusal: 0,
-            goes: true,
+    if rows < 64 {
+        return not_begun(13, 0);
+    }
+    match blocks::sound(file) {
+        Counted::Records(n) => Begun {
+            records: n,
+            progress: component::start(),
         },
-        place: r.number,
-        row: reader::own_row(r),
-    }
-}
-
-// The records of one component, of the first n of a file; before the first, none.
-fn read_component(file: &[u8], n: usize, q: Progress, held: Held) -> Ended
-    requires { ⌜ (1 ≤ n) × (n ≤ 3968) × (n ≤ 31 * (length (now file) / 512)) × (q .at ≤ n) × Begins q ⌝ }
-    ensures { λ e. ⌜ (e .place ≡ q .count - 1) × (e .place < 64) × ((rows : ℕ → Row) → Holds-rows (now (file .entry)) n rows (q .at) (q .count - 1) (held .rows) → Read (now (file .entry)) n (e .progress .goes) rows q e) ⌝ }
-{
-    let count = q.count;
-    let mut instances = [0u16; 64];
-    let mut offsets = [0u16; 64];
-    let mut outputs = [0u16; 64];
-    let mut firsts = [0u32; 64];
-    let mut r = q.reader;
-    let mut i = q.at;
-    while i < n {
-        let p = i;
-        let x = look::record_at(file, p);
-        i += 1;
-        let m = reader::named(x);
-        let v = held.rows[m];
-        let t = reader::turn(
-            file,
-            r,
-            x,
-            half(p),
-            v,
-            &mut instances,
-            &mut offsets,
-            &mut outputs,
-            &mut firsts,
-        );
-        let refusal = t.refusal;
-        if refusal != 0 {
-            return stopped(r, count, p, refusal);
+        Counted::Refused(r) => {
+            let fault = r.fault;
+            not_begun(small(fault.number()), r.position)
         }
-        if reader::is_component(x) {
-            return goes_on(r, x, count, i);
-        }
-        r = t.reader;
-    }
-    let place = r.place;
-    if place.may_end() {
-        return stopped(r, count, n, 0);
-    }
-    stopped(r, count, n, 5)
-}
-
-// The row of component c stored.
-fn store(table: &mut [u16], c: usize, w: Signature)
-    requires { ⌜ (320 ≤ length (now table)) × (c < 64) ⌝ }
-    ensures { λ _. ⌜ now (table .exit) ≡ put-row (now (table .entry)) c (row w) ⌝ }
-{
-    reader::put_row(table, c, w);
-}
-
-// "Every call, accepted or refused, sets all of them to zero."
-pub fn clear(table: &mut [u16])
-    ensures { λ _. ⌜ now (table .exit) ≡ replicate (length (now (table .entry))) 0 ⌝ }
-{
-    let mut i = 0;
-    while i < table.len() {
-        table[i] = 0;
-        i += 1;
-    }
-}
-
-// Before the first record.
-fn start() -> Progress
-    ensures { λ q. ⌜ (fresh (q .reader) ≡ before) × (q .at ≡ 0) × (q .count ≡ 0) × (q .refusal ≡ 0) × (q .goes ≡ true) ⌝ }
-{
-    Progress {
-        reader: reader::start(),
-        at: 0,
-        count: 0,
-        refusal: 0,
-        goes: true,
     }
 }
 
 // What the reading answers where it goes no further.
 fn answered(q: Progress) -> Verdict
-    requires { ⌜ (q .refusal ≢ 0 → (4 ≤ q .refusal) × (q .refusal ≤ 12)) ⌝ }
-    ensures { λ r. ⌜ judged r ≡ counts (cond (eqb (q .refusal) 0) (accepted (q .count) (q .at)) (refused (q .refusal) (q .at))) ⌝ }
+    requires { ⌜ q .refusal ≤ 14 ⌝ }
+    ensures { λ r. ⌜ judged r ≡ said q ⌝ }
 {
     if q.refusal != 0 {
-        return refused(fault(q.refusal), q.at);
+        return Verdict::Refused(Refusal {
+            fault: fault(q.refusal),
+            position: q.at,
+        });
     }
     Verdict::Accepted {
         components: q.count,
@@ -262,64 +108,101 @@ fn answered(q: Progress) -> Verdict
     }
 }
 
-// The first n records of a file, component by component, with a table of zeros or anything else.
-fn read_records(file: &[u8], n: usize, table: &mut [u16]) -> Verdict
-    requires { ⌜ (1 ≤ n) × (n ≤ 3968) × (n ≤ 31 * (length (now file) / 512)) × (320 ≤ length (now table)) ⌝ }
-    ensures { λ r. ⌜ (judged r ≡ counts (rest (now (file .entry)) n waits 0)) × Filled (judged r) (now (file .entry)) (now (table .exit)) ⌝ }
+// The rows of the components that are wanted, as numbers.
+fn hold(file: &[u8], table: &[Signature], first: Wanted, rows: &mut [u16])
+    requires { ⌜ Sound (now file) first × (first .goes ≡ true → 64 ≤ length (now table)) × (5 * (first .place + length (wanted (now file) first)) ≤ length (now rows)) ⌝ }
+    ensures { λ _. ⌜ now (rows .exit) ≡ gathered (now (rows .entry)) (now (table .entry)) (first .place) (wanted (now (file .entry)) first) ⌝ }
 {
-    let mut q = start();
-    while q.goes {
-        let held = hold(table, ask(file, n, q.at));
-        let e = read_component(file, n, q, held);
-        store(table, e.place, e.row);
-        q = e.progress;
+    let mut w = first;
+    while w.goes {
+        reader::put_row(rows, w.place, signatures::row(table, w.component));
+        w = component::next_wanted(file, w);
     }
-    answered(q)
 }
 
-// The verdict; the table of an accepted file is left with the row of each component.
-pub fn read(file: &[u8], table: &mut [u16]) -> Verdict
-    ensures { λ r. ⌜ (judged r ≡ judgement (now (file .entry)) (length (now (table .entry)))) × Filled (judged r) (now (file .entry)) (now (table .exit)) ⌝ }
+// The next component's records, with the rows that its instances want.
+fn read_next(file: &[u8], n: usize, table: &[Signature], q: Progress) -> Ended
+    requires { ⌜ (64 ≤ length (now table)) × (1 ≤ n) × (n ≤ 3968) × (n ≤ 31 * (length (now file) / 512)) × (q .at ≤ n) × Begins q ⌝ }
+    ensures { λ e. ⌜ (e .place ≡ q .count - 1) × (e .place < 64) × ((rows : ℕ → Row) → ((c : ℕ) → c < q .count - 1 → shown (now (table .entry)) c ≡ rows c) → Read (now (file .entry)) n (e .progress .goes) rows q e) ⌝ }
 {
-    if table.len() < 320 {
-        return refused(Fault::Room, 0);
+    let mut held = [0u16; 160];
+    hold(
+        file,
+        table,
+        component::instances_ahead(file, n, q.at),
+        &mut held,
+    );
+    component::read_component(file, n, q, &held)
+}
+
+// All records, component by component; the table of an accepted file is left with the row of each component.
+fn read(file: &[u8], table: &mut [Signature]) -> Progress
+    ensures { λ q. ⌜ (judgement (now (file .entry)) (length (now (table .entry))) ≡ said q) × (q .refusal ≤ 14) × Fills (judgement (now (file .entry)) (length (now (table .entry)))) (now (file .entry)) (shown (now (table .exit))) ⌝ }
+{
+    let begun = begin(file, table.len());
+    let n = begun.records;
+    let mut q = begun.progress;
+    while q.goes {
+        let e = read_next(file, n, table, q);
+        signatures::store(table, e.place, e.row);
+        q = e.progress;
     }
-    match blocks::sound(file) {
-        Counted::Records(n) => read_records(file, n, table),
-        Counted::Refused(r) => Verdict::Refused(r),
-    }
+    q
 }
 
 // The verdict, and a table of zeros.
-pub fn judge(file: &[u8], table: &mut [u16]) -> Verdict
-    ensures { λ r. ⌜ (judged r ≡ judgement (now (file .entry)) (length (now (table .entry)))) × (now (table .exit) ≡ replicate (length (now (table .entry))) 0) ⌝ }
+pub fn judge(file: &[u8], table: &mut [Signature]) -> Verdict
+    ensures { λ r. ⌜ (judged r ≡ judgement (now (file .entry)) (length (now (table .entry)))) × (now (table .exit) ≡ replicate (length (now (table .entry))) zero-row) ⌝ }
 {
-    let verdict = read(file, table);
-    clear(table);
-    verdict
+    let q = read(file, table);
+    signatures::clear(table);
+    answered(q)
 }
 
-// The first 64 rows of a table that has them.
-fn copy(table: &[u16], rows: &mut [u16])
+// The verdict, with the row of each component of an accepted file handed on as numbers, and a table of zeros.
+pub fn open(file: &[u8], table: &mut [Signature], rows: &mut [u16]) -> Verdict
     requires { ⌜ length (now rows) ≡ 320 ⌝ }
-    ensures { λ _. ⌜ now (rows .exit) ≡ copied (now (table .entry)) (now (rows .entry)) ⌝ }
+    ensures { λ r. ⌜ (judged r ≡ judgement (now (file .entry)) (length (now (table .entry)))) × Filled (judged r) (now (file .entry)) (now (rows .exit)) × (now (table .exit) ≡ replicate (length (now (table .entry))) zero-row) ⌝ }
 {
-    if 320 > table.len() {
-        return;
-    }
-    let mut i = 0;
-    while i < 320 {
-        rows[i] = table[i];
-        i += 1;
-    }
+    let q = read(file, table);
+    hold(file, table, component::every_component(table.len()), rows);
+    signatures::clear(table);
+    answered(q)
 }
 
-// The verdict, with the row of each component of an accepted file handed on, and a table of zeros.
-pub fn open(file: &[u8], table: &mut [u16], rows: &mut [u16; 320]) -> Verdict
-    ensures { λ r. ⌜ (judged r ≡ judgement (now (file .entry)) (length (now (table .entry)))) × Filled (judged r) (now (file .entry)) (now (rows .exit)) × (now (table .exit) ≡ replicate (length (now (table .entry))) 0) × (length (now (rows .exit)) ≡ 320) ⌝ }
+// A verdict, and the row of each component of an accepted file, five numbers to a row.
+pub struct Opening {
+    pub verdict: Verdict,
+    pub rows: [u16; 320],
+}
+
+// The same, handed back whole.
+pub fn opened(file: &[u8], table: &mut [Signature]) -> Opening
+    ensures { λ o. ⌜ (judged (o .verdict) ≡ judgement (now (file .entry)) (length (now (table .entry)))) × Filled (judged (o .verdict)) (now (file .entry)) (o .rows) × (length (o .rows) ≡ 320) × (now (table .exit) ≡ replicate (length (now (table .entry))) zero-row) ⌝ }
 {
-    let verdict = read(file, table);
-    copy(table, rows);
-    clear(table);
-    verdict
+    let mut rows = [0u16; 320];
+    let verdict = open(file, table, &mut rows);
+    Opening { verdict, rows }
+}
+
+// For callers that lend no table: one is made and lent here.
+pub fn open_alone(file: &[u8]) -> Opening
+    ensures { λ o. ⌜ (judged (o .verdict) ≡ judgement (now (file .entry)) 64) × Filled (judged (o .verdict)) (now (file .entry)) (o .rows) × (length (o .rows) ≡ 320) ⌝ }
+{
+    let none = Signature {
+        class: 0,
+        delay: 0,
+        inputs: 0,
+        outputs: 0,
+        first: 0,
+    };
+    let mut table = [none; 64];
+    opened(file, &mut table)
+}
+
+pub fn judge_alone(file: &[u8]) -> Verdict
+    ensures { λ r. ⌜ judged r ≡ judgement (now (file .entry)) 64 ⌝ }
+{
+    let o = open_alone(file);
+    o.verdict
 }

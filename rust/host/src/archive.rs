@@ -29,7 +29,7 @@ impl Answer {
 pub type Rows = unsafe extern "C" fn(*const u8, usize, *mut Signature, usize, u64, *mut u8, usize) -> Answer;
 
 extern "C" {
-    pub fn dansevik_judge(file: *const u8, file_bytes: usize, table: *mut Signature, table_length: usize) -> Answer;
+    pub fn dansevik_judge(file: *const u8, file_bytes: usize, table: *mut Signature, table_rows: usize) -> Answer;
     pub fn dansevik_lower(
         file: *const u8,
         bytes: usize,
@@ -51,10 +51,4 @@ extern "C" {
     pub fn dansevik_pack(list: *const u8, list_bytes: usize, out: *mut u8, out_bytes: usize) -> Answer;
     pub fn dansevik_unpack(file: *const u8, file_bytes: usize, out: *mut u8, out_bytes: usize) -> Answer;
     pub fn dansevik_record(file: *const u8, file_bytes: usize, record: u64) -> Answer;
-}
-
-/// What the archive takes as a table's length: it still counts the numbers, five to a row. Where it takes rows this is
-/// `table.len()`.
-pub fn table_length(table: &[Signature]) -> usize {
-    5 * table.len()
 }

@@ -4,7 +4,7 @@
 //! A slice is never null and aligned as its elements, and a `&mut` overlaps nothing: all that the archive asks of its caller.
 
 use super::answers::{Accepted, Refusal};
-use super::archive::{self, table_length, Rows};
+use super::archive::{self, Rows};
 
 /// A row of the working table, zero after every call.
 #[repr(C)]
@@ -20,7 +20,7 @@ pub struct Signature {
 /// Judges a file. Refusals 13 for the table, then 1 to 12.
 pub fn judge(file: &[u8], table: &mut [Signature]) -> Result<Accepted, Refusal> {
     let answer =
-        unsafe { archive::dansevik_judge(file.as_ptr(), file.len(), table.as_mut_ptr(), table_length(table)) }.accepted()?;
+        unsafe { archive::dansevik_judge(file.as_ptr(), file.len(), table.as_mut_ptr(), table.len()) }.accepted()?;
     Ok(Accepted { components: answer.components as usize, records: answer.count as usize })
 }
 
@@ -36,7 +36,7 @@ pub fn list(file: &[u8], table: &mut [Signature], component: u64, out: &mut [u8]
 
 #[inline(always)]
 fn rows(call: Rows, file: &[u8], table: &mut [Signature], component: u64, out: &mut [u8]) -> Result<usize, Refusal> {
-    let (rows, length) = (table.as_mut_ptr(), table_length(table));
+    let (rows, length) = (table.as_mut_ptr(), table.len());
     let answer = unsafe { call(file.as_ptr(), file.len(), rows, length, component, out.as_mut_ptr(), out.len()) };
     Ok(answer.accepted()?.count as usize)
 }

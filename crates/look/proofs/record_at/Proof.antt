@@ -1,6 +1,5 @@
 -- `look::record_at` meets its contract. The part that is decoded is the record's sixteen bytes, and what decodes is in range.
 -- Assumes nothing.
-use Prim.Native.Nat.{_%_}
 use mathlib.Core.Path.{_≡_, _∙_}
 use native.Mathlib.Omega.{arith}
 use Rattle.look.specs.Look.{sixteen}
@@ -32,8 +31,8 @@ decode-requires : tie.Need-decode-requires
 decode-requires c κs = search needs
 
 returns : tie.Need-returns
-returns c = let m : c .before .before .before .before .args .i % 1048576 ≡ c .before .before .before .before .args .i = omega arith in
-    let e : says (c .decode .result) ≡ decoded (sixteen (c .before .before .before .before .args .file .now) (c .before .before .before .before .args .i)) = c .decode .ensures ∙ rw (c .before .before .place-of .ensures, m, add-sub-cancel-left (record-place (c .before .before .before .before .args .i)) 16) in
+returns c =
+    let e : says (c .decode .result) ≡ decoded (sixteen (c .before .before .before .before .args .file .now) (c .before .before .before .before .args .i)) = c .decode .ensures ∙ rw (c .before .before .place-of .ensures, add-sub-cancel-left (record-place (c .before .before .before .before .args .i)) 16) in
     (e, rw e (decoded-ranged (sixteen (c .before .before .before .before .args .file .now) (c .before .before .before .before .args .i)) (sixteen-small (c .before .before .before .before .args .file .now) (c .before .before .before .before .args .i) (λ j l. omega (arith, c .before .before .before .shared-slice-known .given j)))))
 
 pub record-at-spec : {M : Type 1} → statement M

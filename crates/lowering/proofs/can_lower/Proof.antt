@@ -11,7 +11,7 @@ row-of-requires : tie.Need-row-of-requires
 row-of-requires c κs = search needs
 
 returns : tie.Need-returns
-returns c = rw (lt-ltb _ _ (c .before .if1 .taken)) (ap (λ (w : Row). w .built) (c .row-of .ensures))
+returns c = rw (lt-ltb _ _ (c .before .before .if1 .taken)) (ap (λ (w : Row). w .built) (c .before .row-of .ensures))
 
 returns-2 : tie.Need-returns-2
 returns-2 c = rw (le-ltb _ _ (c .if1 .left)) refl

@@ -1,8 +1,22 @@
--- `reader::input_refusal` meets its contract. The three tests are those of the theory, in its order.
+-- `reader::input_refusal` meets its contract. The tests in the order of their numbers.
 -- Assumes nothing.
+use Prim.Native.Nat.{_-_}
+use borrow.Author.Tests.{not-true, not-false}
 use borrow.Author.Needs.{needs}
 use Rattle.reader.proofs.input_refusal.Statement.{statement}
 use Rattle.reader.proofs.input_refusal.Tie as tie
+
+may-input-requires : tie.Need-may-input-requires
+may-input-requires c κs = search needs
+
+returns : tie.Need-returns
+returns c = rw (← c .before .may-input .ensures, not-true (c .before .may-input .result) (c .if1 .taken))
+
+room-for-input-requires : tie.Need-room-for-input-requires
+room-for-input-requires c κs = search needs
+
+returns-2 : tie.Need-returns-2
+returns-2 c = rw (← c .before .before .before .may-input .ensures, not-false (c .before .before .before .may-input .result) (c .before .before .if1 .left), ← c .before .room-for-input .ensures, not-true (c .before .room-for-input .result) (c .if2 .taken))
 
 half-requires : tie.Need-half-requires
 half-requires c κs = search needs
@@ -10,33 +24,21 @@ half-requires c κs = search needs
 interval-kept-requires : tie.Need-interval-kept-requires
 interval-kept-requires c κs = search needs
 
-may-input-requires : tie.Need-may-input-requires
-may-input-requires c κs = search needs
+returns-3 : tie.Need-returns-3
+returns-3 c = rw (← c .before .before .before .before .before .before .may-input .ensures, not-false (c .before .before .before .before .before .before .may-input .result) (c .before .before .before .before .before .if1 .left), ← c .before .before .before .before .room-for-input .ensures, not-false (c .before .before .before .before .room-for-input .result) (c .before .before .before .if2 .left), ← c .before .before .half .ensures, ← c .before .interval-kept .ensures, not-true (c .before .interval-kept .result) (c .if3 .taken))
 
-room-for-input-requires : tie.Need-room-for-input-requires
-room-for-input-requires c κs = search needs
-
-first-requires : tie.Need-first-requires
-first-requires c κs = search needs
-
-first-requires-2 : tie.Need-first-requires-2
-first-requires-2 c κs = search needs
-
-first-requires-3 : tie.Need-first-requires-3
-first-requires-3 c κs = search needs
-
-returns : tie.Need-returns
-returns c = cc
+returns-4 : tie.Need-returns-4
+returns-4 c = rw (← c .before .before .before .before .before .before .may-input .ensures, not-false (c .before .before .before .before .before .before .may-input .result) (c .before .before .before .before .before .if1 .left), ← c .before .before .before .before .room-for-input .ensures, not-false (c .before .before .before .before .room-for-input .result) (c .before .before .before .if2 .left), ← c .before .before .half .ensures, ← c .before .interval-kept .ensures, not-false (c .before .interval-kept .result) (c .if3 .left))
 
 pub input-refusal-spec : {M : Type 1} → statement M
 input-refusal-spec =
     tie.close
     (tie.spec
+    may-input-requires
+    returns
+    room-for-input-requires
+    returns-2
     half-requires
     interval-kept-requires
-    may-input-requires
-    room-for-input-requires
-    first-requires
-    first-requires-2
-    first-requires-3
-    returns)
+    returns-3
+    returns-4)

@@ -1,7 +1,8 @@
 -- `reader::invocation_refusal` meets its contract. With 64 invocations there is no room for another; below that the tests are those of the theory.
 -- Assumes nothing.
+use Prim.Native.Nat.{_-_}
 use mathlib.Core.Path.{_∙_}
-use borrow.Author.Tests.{lt-ltb, le-ltb}
+use borrow.Author.Tests.{not-true, not-false, lt-ltb, le-ltb}
 use borrow.Author.Needs.{needs}
 use Rattle.reader.proofs.invocation_refusal.Statement.{statement}
 use Rattle.reader.proofs.invocation_refusal.Tie as tie
@@ -9,11 +10,11 @@ use Rattle.reader.proofs.invocation_refusal.Tie as tie
 may-invocation-requires : tie.Need-may-invocation-requires
 may-invocation-requires c κs = search needs
 
-first-requires : tie.Need-first-requires
-first-requires c κs = search needs
-
 returns : tie.Need-returns
-returns c = c .first .ensures ∙ rw (c .before .before .before .may-invocation .ensures, le-ltb _ _ (c .before .if1 .taken))
+returns c = rw (← c .before .may-invocation .ensures, not-true (c .before .may-invocation .result) (c .if1 .taken))
+
+returns-2 : tie.Need-returns-2
+returns-2 c = rw (← c .before .before .before .may-invocation .ensures, not-false (c .before .before .before .may-invocation .result) (c .before .before .if1 .left), le-ltb _ _ (c .if2 .taken))
 
 half-requires : tie.Need-half-requires
 half-requires c κs = search needs
@@ -21,20 +22,16 @@ half-requires c κs = search needs
 invocation-refusal-requires : tie.Need-invocation-refusal-requires
 invocation-refusal-requires c κs = search needs
 
-first-requires-2 : tie.Need-first-requires-2
-first-requires-2 c κs = search needs
-
-returns-2 : tie.Need-returns-2
-returns-2 c = c .first2 .ensures ∙ rw (c .before .before .before .before .before .may-invocation .ensures, c .before .invocation-refusal .ensures, lt-ltb _ _ (c .before .before .before .if1 .left), c .before .before .half .ensures)
+returns-3 : tie.Need-returns-3
+returns-3 c = c .invocation-refusal .ensures ∙ rw (c .before .half .ensures, ← c .before .before .before .before .before .may-invocation .ensures, not-false (c .before .before .before .before .before .may-invocation .result) (c .before .before .before .before .if1 .left), lt-ltb _ _ (c .before .before .if2 .left))
 
 pub invocation-refusal-spec : {M : Type 1} → statement M
 invocation-refusal-spec =
     tie.close
     (tie.spec
     may-invocation-requires
-    first-requires
     returns
+    returns-2
     half-requires
     invocation-refusal-requires
-    first-requires-2
-    returns-2)
+    returns-3)

@@ -1,17 +1,16 @@
--- `reader::put_row` meets its contract. Five stores, one after the other, are the row put in its place.
+-- `reader::put_row` meets its contract. Each number of the row is written at its place.
 -- Assumes nothing.
+use Prim.Native.Nat.{_-_}
+use mathlib.Core.Path.{refl}
 use native.Mathlib.Omega.{arith}
 use lib.ListN.{length-set}
-use Rattle.reader.specs.Rows.{put-row}
 use borrow.Author.Needs.{needs}
+use Rattle.reader.specs.Rows.{put-row}
 use Rattle.reader.proofs.put_row.Statement.{statement}
 use Rattle.reader.proofs.put_row.Tie as tie
 
 mul-at : tie.Need-mul-at
 mul-at c = search needs
-
-bit-requires : tie.Need-bit-requires
-bit-requires c κs = search needs
 
 mul-rows : tie.Need-mul-rows
 mul-rows c = search needs
@@ -60,14 +59,13 @@ same-length c = search needs
 
 returns : tie.Need-returns
 unfolding put-row
-returns c = rw (c .bit .ensures)
+returns c = refl
 
 pub put-row-spec : {M : Type 1} → statement M
 put-row-spec =
     tie.close
     (tie.spec
     mul-at
-    bit-requires
     mul-rows
     slice-write-rows
     add-rows

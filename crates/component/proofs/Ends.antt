@@ -1,0 +1,80 @@
+-- What is answered where a component's records end: each way to end is one of the contract's.
+-- Assumes nothing.
+use Prim.Native.Nat.{ℕ, _+_, _-_, _≤_, _<_}
+use mathlib.Core.Bool.{Bool, true, false}
+use mathlib.Core.Path.{_≡_, refl, sym, ap, _∙_, subst}
+use mathlib.Core.List.{List}
+use native.Mathlib.Omega.{arith}
+use native.Mathlib.Numerals.{add-one}
+use Rattle.timeline.specs.Design.{Port, Class}
+use Rattle.entry.specs.Records.{Part, Record, wrong, component, part}
+use Rattle.entry.specs.Answers.{accepted, refused}
+use Rattle.reading.specs.Reader as Reading
+use Rattle.reading.specs.Reader.{Row, tests}
+use Rattle.rules.specs.Lowest.{lowest}
+use Rattle.reader.specs.declared.Reader.{Reader}
+use Rattle.reader.specs.Rows.{row, none}
+use Rattle.reader.specs.State.{State, fresh, begin, viewed, own-row, opened, is-component}
+use Rattle.component.specs.declared.Progress.{Progress}
+use Rattle.component.specs.declared.Ended.{Ended}
+use Rattle.component.specs.Run.{reads, rest, last, Onward}
+use Rattle.component.specs.Component.{Begun, with-row, run, Read}
+use Rattle.component.proofs.Turns.{after-some}
+
+-- Which record it is.
+pub component-of : (x : Record) → is-component x ≡ true → (k : Class) × (d : ℕ) × (x ≡ component k d)
+component-of wrong e = absurd (let z : _≡_ {A = ℕ} 0 1 = cc in omega arith)
+component-of (component k d) e = (k, d, refl)
+component-of (part y) e = absurd (let z : _≡_ {A = ℕ} 0 1 = cc in omega arith)
+
+pub part-of : (look : ℕ → Port) (s : State) (x : Record) (m : ℕ) → is-component x ≡ false → m ≡ lowest (tests look (Reading.reads (viewed none s)) x) → m ≡ 0 → (y : Part) × (x ≡ part y)
+part-of look s wrong m e t z = absurd (omega arith)
+part-of look s (component k d) m e t z = absurd (let z : _≡_ {A = ℕ} 0 1 = cc in omega arith)
+part-of look s (part y) m e t z = (y, refl)
+
+module _ (file : List ℕ) (n : ℕ) (rows : ℕ → Row) (q : Progress) (e : Ended) where
+  -- Stopped, at position a with this number.
+  module _ (r : Reader) (a c m : ℕ) (is : e .progress ≡ record { reader = r; at = a; count = c; refusal = m; goes = false }) where
+    abbrev p : Progress
+    p = record { reader = r; at = a; count = c; refusal = m; goes = false }
+
+    pub refused-read : (4 ≤ m) × (m ≤ 12) → rest file n (run rows q) (q .at) ≡ refused m a → Read file n (e .progress .goes) rows q e
+    refused-read range answer =
+        let f : e .progress .refusal ≡ m = ap (λ (z : Progress). z .refusal) is in
+        subst (λ (b : Bool). Read file n b rows q e) (sym (ap (λ (z : Progress). z .goes) is))
+        (record {
+          range = λ d. rw f range;
+          refuses = λ d. rw is answer;
+          accepts = λ z. absurd (let l = range .0 in omega arith);
+          whole = λ z. absurd (let l = range .0 in omega arith);
+        })
+
+    pub whole-read : m ≡ 0 → a ≡ n → (s : State) → rest file n (run rows q) (q .at) ≡ accepted c a → last file n (run rows q) (q .at) ≡ reads rows s → s .number ≡ e .place → c ≡ e .place + 1 → own-row s ≡ row (e .row)
+        → Read file n (e .progress .goes) rows q e
+    whole-read z all s answer leads number count own =
+        let f : e .progress .refusal ≡ m = ap (λ (z : Progress). z .refusal) is in
+        subst (λ (b : Bool). Read file n b rows q e) (sym (ap (λ (z : Progress). z .goes) is))
+        (record {
+          range = λ d. absurd (d (f ∙ z));
+          refuses = λ d. absurd (d (f ∙ z));
+          accepts = λ y. rw is answer;
+          whole = λ y. (ap (λ (z : Progress). z .at) is ∙ all, ap (λ (z : Progress). z .count) is ∙ count, record { final = s; leads = leads; number = number; row = own });
+        })
+
+  -- The next component has begun, with record i.
+  module _ (r : Reader) (i : ℕ) (k : Class) (d : ℕ) where
+    pub goes-read : fresh (e .progress .reader) ≡ begin k d i (q .count) → e .progress .at ≡ i + 1 → e .progress .count ≡ q .count + 1 → e .progress .goes ≡ true → row (e .row) ≡ own-row (fresh r) → q .at ≤ i → i < n → q .count < 64 → d < 65536
+        → Onward file n (run rows q) (q .at) (reads (with-row (q .count) rows (own-row (fresh r))) (begin k d i (q .count))) (i + 1) → Read file n (e .progress .goes) rows q e
+    goes-read s a c g w from l room small onward =
+        subst (λ (b : Bool). Read file n b rows q e) (sym g)
+        (record {
+          later = (let y = a in omega arith);
+          within = (let y = a in omega arith);
+          begins = subst (λ (at : ℕ). Begun at (e .progress .count) (fresh (e .progress .reader))) (sym (a ∙ add-one i)) (k, d, q .count, c, room, small, s);
+          count = c;
+          onward = rw (a, w, after-some (i + 1) (with-row (q .count) rows (own-row (fresh r))) (fresh (e .progress .reader)) (omega arith), s) onward;
+        })
+
+-- The reader that a component record, number i, leaves.
+pub opens : (x : Record) (i c : ℕ) (k : Class) (d : ℕ) → x ≡ component k d → opened x (i + 1 - 1) c ≡ begin k d i c
+opens x i c k d e = let y : i + 1 - 1 ≡ i = omega arith in rw (e, y)

@@ -1,0 +1,11 @@
+pub mod Rows
+pub mod Keeps
+pub mod Tested
+pub mod Turns
+pub mod Ahead
+pub mod Next
+pub mod Gathered
+pub mod Inside
+pub mod Parts
+pub mod Passing
+pub mod Ends
