@@ -57,7 +57,7 @@ fn put_block(records: &[u8], number: u32, last: bool, out: &mut [u8])
     put_count((size / 16) as u8, last, &mut out[4..8]);
     bytes::copy(records, &mut out[8..8 + size]);
     clear(&mut out[8 + size..508]);
-    let check = fnv::hash_block(&out[0..508]);
+    let check = fnv::hash(&out[0..508]);
     numbers::put_four(&mut out[508..512], check);
 }
 

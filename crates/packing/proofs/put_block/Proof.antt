@@ -68,17 +68,17 @@ part-clear-end c = search needs
 clear-requires : tie.Need-clear-requires
 clear-requires c κs = search needs
 
-sub-hash-block : tie.Need-sub-hash-block
-sub-hash-block c = search needs
+sub-hash : tie.Need-sub-hash
+sub-hash c = search needs
 
-part-hash-block-start : tie.Need-part-hash-block-start
-part-hash-block-start c = search needs
+part-hash-start : tie.Need-part-hash-start
+part-hash-start c = search needs
 
-part-hash-block-end : tie.Need-part-hash-block-end
-part-hash-block-end c = search needs
+part-hash-end : tie.Need-part-hash-end
+part-hash-end c = search needs
 
-hash-block-requires : tie.Need-hash-block-requires
-hash-block-requires c κs = search needs
+hash-requires : tie.Need-hash-requires
+hash-requires c κs = search needs
 
 sub-put-four-2 : tie.Need-sub-put-four-2
 sub-put-four-2 c = search needs
@@ -108,7 +108,7 @@ returns c = let a = c .before .before .before .before .before .before .before .b
     let ez = c .before .before .before .before .before .before .before .before .before .clear .ensures ∙ ap (λ (k : ℕ). replicate k 0) (cleared (a .number) (a .last) (a .records .now) (a .out .now) few room number count records zeros check (c .before .before .before .before .before .before .before .before .before .before .before .before .before .before .before .before .before .before .before .before .before .put-four .ensures) (c .before .before .before .before .before .before .before .before .before .before .before .before .before .before .before .before .before .put-count .ensures) er) in
     let ef = front-written (a .number) (a .last) (a .records .now) (a .out .now) few room number count records zeros check (c .before .before .before .before .before .before .before .before .before .before .before .before .before .before .before .before .before .before .before .before .before .put-four .ensures) (c .before .before .before .before .before .before .before .before .before .before .before .before .before .before .before .before .before .put-count .ensures) er ez in
     block-written (a .number) (a .last) (a .records .now) (a .out .now) few room number count records zeros check (c .before .before .before .before .before .before .before .before .before .before .before .before .before .before .before .before .before .before .before .before .before .put-four .ensures) (c .before .before .before .before .before .before .before .before .before .before .before .before .before .before .before .before .before .put-count .ensures) er ez
-    (c .before .before .put-four2 .ensures ∙ ap (bytes 4) (c .before .before .before .before .hash-block .ensures ∙ ap hash ef))
+    (c .before .before .put-four2 .ensures ∙ ap (bytes 4) (c .before .before .before .before .hash .ensures ∙ ap hash ef))
 
 pub put-block-spec : {M : Type 1} → statement M
 put-block-spec =
@@ -133,10 +133,10 @@ put-block-spec =
     part-clear-start
     part-clear-end
     clear-requires
-    sub-hash-block
-    part-hash-block-start
-    part-hash-block-end
-    hash-block-requires
+    sub-hash
+    part-hash-start
+    part-hash-end
+    hash-requires
     sub-put-four-2
     part-put-four-start-2
     part-put-four-end-2
