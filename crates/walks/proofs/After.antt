@@ -1,4 +1,4 @@
--- What is left of a body after its first n statements: so a walk is cut into lemmas inside a loop's turn, of which the generated MIR names only the whole (`turn-1`). It says nothing of the crate, and can be copied as it stands.
+-- What is left of a body after its first n statements: so a walk is cut into lemmas inside a loop's turn, of which the generated MIR names only the whole (`turn-1`).
 -- Assumes nothing.
 use Prim.Native.Nat.{ℕ, zero, suc}
 use mir.Syntax.{Body, skip, seq, assign, block, loop, cond, switch, exit, return, call}

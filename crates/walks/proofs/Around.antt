@@ -1,4 +1,4 @@
--- What surrounds a call in a walk by hand, as steps of the calculus: what the callee gives, and a `&mut [T]` that is lent for the call and comes back. It says nothing of a crate.
+-- What surrounds a call in a walk by hand, as steps of the calculus: what the callee gives, and a `&mut [T]` that is lent for the call and comes back.
 --     given-back       what a callee gives once it has returned v: the tokens, the result, the last values, and what it ensures of them
 --     gives            the same where there are no last values and the result is plain: what is ensured is known, and the tokens are back
 --     lends-on         a `&κ mut [T]` with κ's token is lent again, for a lifetime ν that is made here: the callee has the slice and the whole token, the holder keeps `LentAgain`

@@ -1,4 +1,4 @@
--- A call in a walk by hand, by the callee's contract alone. It says nothing of the crate, and can be copied as it stands.
+-- A call in a walk by hand, by the callee's contract alone.
 --     asked S x        what a callee of the signature S takes, entry by entry: what its arguments own, then the tokens of its lifetimes
 --     returned T y     what it gives back: the tokens, what the result owns, and for each `&mut` the last value
 --     local, into, over        an operand that is a local; and a result that goes into a local, which is empty, or over what it holds

@@ -1,4 +1,4 @@
--- The frame of a walk by hand: a function's locals and arguments, from entry to return. It says nothing of the crate, and can be copied as it stands.
+-- The frame of a walk by hand: a function's locals and arguments, from entry to return.
 --     placed ls l      the locals' places, local k at l k.        cells E vs     the values vs stored in the first of them, and room for the rest.        dying E     the right to free each
 --     enters           the locals are allocated and the arguments stored: local k stands at k, then the right to free them, then what there was
 --     leaves           the function returns the value of local 0, and the locals are freed

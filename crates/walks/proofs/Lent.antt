@@ -1,4 +1,4 @@
--- A local array `[T; n]` of plain data, made by a repeat, and what its place is when it is lent whole as a slice. It says nothing of the crate, and can be copied as it stands.
+-- A local array `[T; n]` of plain data, made by a repeat, and what its place is when it is lent whole as a slice.
 --     is-array         n copies of x are a [T; n], at the machine value of n copies of u
 --     array-parts      the array's place, at a value of the type, is the whole share of its elements: what `denote.Lend`'s `lends-shr-slice` takes
 --     array-cells      so it is its elements in memory: what `lends-slice` takes

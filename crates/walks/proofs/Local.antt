@@ -1,4 +1,4 @@
--- A local array `[T; n]` of plain data, in its place: made by a repeat, lent whole as a `&mut [T]` or as a `&[T]` for a call, and home again. It says nothing of the crate, and can be copied as it stands.
+-- A local array `[T; n]` of plain data, in its place: made by a repeat, lent whole as a `&mut [T]` or as a `&[T]` for a call, and home again.
 --     repeats          `_k = [x; n]`: the array is n times x, at a machine value that a proof need not look into
 --     spells-whole     `_a = &_p; _b = {_a, n}`: the array in local p is spelled as a slice in local b
 --     lends-array      the array in local k is lent, for a lifetime ν that is made here: the callee has the slice and the whole token, and the lender's part stands in the array's place

@@ -1,4 +1,4 @@
--- A slice that a function has been lent, and passes on to a callee. It says nothing of the crate, and can be copied as it stands.
+-- A slice that a function has been lent, and passes on to a callee.
 --     turn             the first m entries of the context go to its end, so that the locals come first again
 --     told             what a callee leaves of a `&mut [T]`: its last list, and that it is as long as the list that was passed
 --     spells-again     `_a = &*_p.0; _b = {_a, _p.1}`: the slice in local p is spelled again in local b

@@ -1,4 +1,4 @@
--- The walk of a whole function, from its entry to its return. It says nothing of the crate, and can be copied as it stands.
+-- The walk of a whole function, from its entry to its return.
 --     Param s k        what a walk has to know of a parameter of the slot s: what is had of it at exit, that this says the last value, and how its machine value is spelled
 --     shared, given, value, number     a `&[T]`, of which nothing is had at exit; a `&mut [T]` that is given to a callee for good; plain data, by its type's laws; and a number
 --     Walk             the function's body runs, with all that there is on entry: local k at k, the right to free the locals, what the arguments own, the tokens, and what is required
