@@ -18,7 +18,7 @@ use Rattle.entry.specs.Records.{Record, component, parts, records}
 use Rattle.entry.specs.Answers as Entry
 use Rattle.entry.specs.Verdict.{verdict}
 use Rattle.entry.specs.Main.{accepted-exactly}
-use Rattle.reading.specs.Proofs.Encoded.{All-in-range, accepted-in-range}
+use Rattle.reading.specs.Proofs.Ranges.{All-in-range, accepted-in-range}
 use Rattle.records.specs.Decoded.{decoded}
 use Rattle.records.specs.Encoded.{encoded}
 use Rattle.look.specs.Listed.{sixteens, records-of}

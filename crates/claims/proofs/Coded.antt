@@ -9,7 +9,7 @@ use Rattle.entry.specs.Records.{Record, wrong}
 use Rattle.entry.specs.Entered.{nothing}
 use Rattle.entry.specs.Asks.{In-range}
 use Rattle.entry.specs.Answers.{accepted}
-use Rattle.reading.specs.Proofs.Encoded.{All-in-range}
+use Rattle.reading.specs.Proofs.Ranges.{All-in-range}
 use Rattle.numbers.specs.Numbers.{Bytes}
 use Rattle.numbers.proofs.Bytes as Bytes
 use Rattle.records.specs.Decoded.{decoded}

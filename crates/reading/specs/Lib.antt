@@ -1,5 +1,5 @@
 -- Reading a record list in one pass: what a program has to show of its tests and its state to give the verdict of entry.
--- Definitions, in the order to read them: Tests, Scan, Place, Changed, Reader, Step, Table, Reads; an example, Plain; records as bytes, Encoded.
+-- Definitions, in the order to read them: Tests, Scan, Place, Changed, Reader, Step, Table, Reads.
 -- Results: Main. Proofs is why they hold.
 pub mod Tests
 pub mod Scan
@@ -9,7 +9,5 @@ pub mod Reader
 pub mod Step
 pub mod Table
 pub mod Reads
-pub mod Plain
-pub mod Encoded
 pub mod Main
 pub mod Proofs
