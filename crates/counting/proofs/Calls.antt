@@ -10,10 +10,11 @@ use Rattle.timeline.specs.Design.{Design, built, class, input-count, instance-c
 use Rattle.timeline.specs.Flat.{row-count, units-before}
 use Rattle.entry.specs.Numbers.{component-number, invocation-number}
 use Rattle.reader.specs.Rows.{row-in}
-use Rattle.groups.specs.Groups.{design-of, first-number, second-number, past-instances}
+use Rattle.groups.specs.Groups.{design-of, first-number, second-number, past-instances, end-of}
+use Rattle.groups.proofs.Order.{none-behind}
 use Rattle.expansion.specs.Noted.{capped}
-use Rattle.counting.specs.Known.{Opened-at, past-ports, past-component, Counts, Units-before, kept-note, next-note, Noting}
-use Rattle.counting.proofs.Places.{present, few-components, few-instances, outputs-are, inputs-are, calls-end, in-order, begins, instances-pass, Read, invocation-read, invocation-last}
+use Rattle.counting.specs.Known.{Opened-at, past-ports, Counts, Units-before, kept-note, next-note, Noting}
+use Rattle.counting.proofs.Places.{present, few-components, few-instances, outputs-are, inputs-are, calls-end, in-order, begins, instances-pass, Read, invocation-read}
 use Rattle.counting.proofs.Turns.{noting-none, noting-more, units-of}
 
 -- At record i, that of invocation `number`.
@@ -26,10 +27,10 @@ module _ {file table : List ℕ} {components n c : ℕ} (o : Opened-at file tabl
   abbrev D : Design
   D = design-of file n
 
-  pub connections-asked : class D c ≡ built → (c < components) × (components ≤ 64) × ((row-in table c) .outputs ≤ past-component table components n c)
+  pub connections-asked : class D c ≡ built → (c < components) × (components ≤ 64) × ((row-in table c) .outputs ≤ end-of table components n c)
   connections-asked b = let e = calls-end o b in let f = outputs-are o in (o .there, few-components o, omega arith)
 
-  module _ (b : class D c ≡ built) {first last : ℕ} (ef : first ≡ past-ports (row-in table c)) (el : last ≡ past-component table components n c - (row-in table c) .outputs) where
+  module _ (b : class D c ≡ built) {first last : ℕ} (ef : first ≡ past-ports (row-in table c)) (el : last ≡ end-of table components n c - (row-in table c) .outputs) where
     last-is : last ≡ invocation-number D c (invocation-count D c)
     last-is = let e = calls-end o b in let f = outputs-are o in omega arith
 
@@ -43,7 +44,7 @@ module _ {file table : List ℕ} {components n c : ℕ} (o : Opened-at file tabl
       going-end h =
           let e = last-is in
           let p = g .place in
-          rw (invocation-last D c (g .number) (g .noting .few) (omega arith)) at (g .noting)
+          rw (none-behind D c (g .number) (g .noting .few) (omega arith)) at (g .noting)
 
       module _ (h : i < last) where
         pub left : g .number < invocation-count D c

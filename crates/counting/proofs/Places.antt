@@ -1,24 +1,22 @@
 -- Where the instances and invocations of an opened component stand, and that its records lie in order.
 -- Assumes nothing.
-use Prim.Native.Nat.{ℕ, zero, suc, _+_, _-_, _*_, _/_, _≤_, _<_}
+use Prim.Native.Nat.{ℕ, suc, _+_, _-_, _*_, _/_, _≤_, _<_}
 use mathlib.Core.Path.{_≡_, refl, ap, sym, _∙_}
-use mathlib.Core.Bool.{true, false, cond, false≢true}
+use mathlib.Core.Bool.{true, false, false≢true}
 use mathlib.Core.List.{List}
 use native.Mathlib.Omega.{arith}
 use native.Mathlib.Numerals.{add-one}
-use native.Mathlib.Decide.{decLt}
 use lib.ListN.{length}
-use lib.Dec.{ltb}
-use borrow.Author.Tests.{lt-ltb, le-ltb}
 use Rattle.timeline.specs.Design.{Design, Class, leaf, built, class, input-count, output-count, instance-count, invocation-count, made-of, instance, invoked, offset}
 use Rattle.entry.specs.Numbers.{component-number, input-number, output-number, instance-number, invocation-number, connection-number}
 use Rattle.entry.specs.Laws.{next-component}
 use Rattle.reading.specs.Tests.{is-built}
 use Rattle.reading.specs.Reader.{Row}
 use Rattle.reader.specs.Rows.{row-in}
-use Rattle.groups.specs.Groups.{design-of, Lies, first-number, second-number, past-instances}
-use Rattle.groups.proofs.Laws.{lies, component-end, row-is, instance-below, invocation-below, instance-says, invocation-says, next-invocation, component-ends, past-is}
-use Rattle.counting.specs.Known.{Opened-at, past-ports, past-component}
+use Rattle.groups.specs.Groups.{design-of, Lies, first-number, second-number, past-instances, end-of}
+use Rattle.groups.proofs.Laws.{lies, row-is, instance-below, invocation-below, instance-says, invocation-says, next-invocation, component-ends, end-is, next-below, past-is}
+use Rattle.groups.proofs.Order.{invocations-rise}
+use Rattle.counting.specs.Known.{Opened-at, past-ports}
 
 module _ (D : Design) (c : ℕ) where
   pub instance-on : (m : ℕ) → instance-number D c m ≡ instance-number D c 0 + m
@@ -28,18 +26,6 @@ module _ (D : Design) (c : ℕ) where
   pub instances-end : invocation-number D c 0 ≡ instance-number D c 0 + instance-count D c
   unfolding invocation-number
   instances-end = instance-on (instance-count D c)
-
-  pub invocation-on : (d j : ℕ) → invocation-number D c j + d ≤ invocation-number D c (d + j)
-  unfolding invocation-number
-  invocation-on zero j = let e : 0 + j ≡ j = omega arith in rw e (omega arith)
-  invocation-on (suc d) j = let h = invocation-on d j in let e : suc d + j ≡ suc (d + j) = omega arith in rw e (omega arith)
-
-  -- The last of them is where it is by number.
-  pub invocation-last : (j : ℕ) → j ≤ invocation-count D c → invocation-number D c (invocation-count D c) ≤ invocation-number D c j → j ≡ invocation-count D c
-  invocation-last j l h =
-      let e : invocation-count D c - j + j ≡ invocation-count D c = omega arith in
-      let g : invocation-number D c j + (invocation-count D c - j) ≤ invocation-number D c (invocation-count D c) = rw e at (invocation-on (invocation-count D c - j) j) in
-      omega arith
 
   -- Each group of a component's records begins where the one before it ends, or later.
   pub record In-order : Type 0 where
@@ -54,7 +40,7 @@ module _ (D : Design) (c : ℕ) where
       let e = next-component D c h in
       let i = instances-end in
       let z : invocation-count D c + 0 ≡ invocation-count D c = omega arith in
-      let j = rw z at (invocation-on (invocation-count D c) 0) in
+      let j = rw z at (invocations-rise D c (invocation-count D c) 0) in
       record { ports = omega arith; instances = omega arith; invocations = omega arith; connections = rw (add-one c) (omega arith) }
 
 module _ {file table : List ℕ} {components n c : ℕ} (o : Opened-at file table components n c) where
@@ -71,33 +57,14 @@ module _ {file table : List ℕ} {components n c : ℕ} (o : Opened-at file tabl
   unfolding input-number output-number instance-number
   ports-end = rw (row-is (o .opened) c present) (omega arith)
 
-  components-within : (d k : ℕ) → d + k ≡ length D → component-number D k ≤ n
-  components-within zero k e = let m : k ≡ length D = omega arith in let w = component-end (o .opened) in rw m (omega arith)
-  components-within (suc d) k e =
-      let h = components-within d (k + 1) (omega arith) in
-      let i = in-order D k (omega arith) in
-      omega arith
-
   pub component-within : component-number D (c + 1) ≤ n
-  component-within = let p = present in components-within (length D - (c + 1)) (c + 1) (omega arith)
-
-  pub component-past : past-component table components n c ≡ component-number D (c + 1)
-  unfolding past-component
-  component-past = go (decLt (c + 1) components)
-    where
-      go : Dec (c + 1 < components) → cond (ltb (c + 1) components) ((row-in table (c + 1)) .first) n ≡ component-number D (c + 1)
-      go (yes l) = let e = o .all in let m : c + 1 < length D = omega arith in rw (lt-ltb (c + 1) components l) (ap (λ w. w .first) (row-is (o .opened) (c + 1) m))
-      go (no l) =
-          let e = o .all in
-          let b = o .there in
-          let m : length D ≡ c + 1 = omega arith in
-          rw (le-ltb (c + 1) components (omega arith)) (sym (ap (component-number D) (sym m) ∙ component-end (o .opened)))
+  component-within = rw (add-one c) (next-below (o .opened) c present)
 
   module _ (b : class D c ≡ built) where
     -- Its connections are its last records.
-    pub calls-end : past-component table components n c ≡ invocation-number D c (invocation-count D c) + output-count D c
+    pub calls-end : end-of table components n c ≡ invocation-number D c (invocation-count D c) + output-count D c
     unfolding connection-number
-    calls-end = component-past ∙ rw (add-one c) (component-ends (o .opened) c present b)
+    calls-end = end-is (o .opened) c present components (o .all) ∙ component-ends (o .opened) c present b
 
   -- What stands in the record of instance m, counted from the first.
   module _ {first : ℕ} (ef : first ≡ instance-number D c 0) where

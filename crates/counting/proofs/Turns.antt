@@ -14,11 +14,11 @@ use Rattle.timeline.specs.Rules.{Lawful}
 use Rattle.timeline.specs.Flat.{row-count, unit-count, units-before}
 use Rattle.timeline.specs.Proofs.Rows.{row-count-built, unit-count-built, units-before-sum}
 use Rattle.entry.specs.Numbers.{invocation-number}
+use Rattle.groups.proofs.Order.{invocations-rise}
 use Rattle.expansion.specs.Notes.{put-note}
 use Rattle.expansion.specs.Noted.{capped}
 use Rattle.expansion.proofs.Noting.{notes-start, notes-alike, notes-skip, notes-next, put-alike, put-length, put-component, put-offset, put-units}
 use Rattle.counting.specs.Known.{units-to, Units-before, rows-to, kept-note, next-note, Noting}
-use Rattle.counting.proofs.Places.{invocation-on}
 
 -- ---- instances
 -- The instances of component c before number m have been counted.
@@ -84,7 +84,7 @@ module _ {D : Design} (lawful : Lawful D) (c : ℕ) (h : c < length D) where
     skipped : n ≡ 0 → Noting D c (suc j) a z (capped (s + n)) old mid
     skipped e =
         let p = t .place in
-        let q = invocation-on D c 1 j in
+        let q = invocations-rise D c 1 j in
         let w : 1 + j ≡ suc j = omega arith in
         let v = rw w at q in
         record { few = omega arith; notes = notes-skip D c mid j a z (t .notes) (omega arith); rows-are = sums; place = omega arith; kept = t .kept; long = t .long }
@@ -93,7 +93,7 @@ module _ {D : Design} (lawful : Lawful D) (c : ℕ) (h : c < length D) where
     noted e =
         let p = t .place in
         let o = t .notes .order in
-        let q = invocation-on D c 1 j in
+        let q = invocations-rise D c 1 j in
         let w : 1 + j ≡ suc j = omega arith in
         let v = rw w at q in
         let m = notes-alike D c (put-note mid z component off units) mid j a z (put-alike mid z component off units) (t .notes) in

@@ -5,12 +5,11 @@ use mathlib.Core.Bool.{cond}
 use mathlib.Core.Path.{_≡_}
 use mathlib.Core.List.{List}
 use lib.ListN.{length, getD}
-use lib.Dec.{ltb, eqb}
+use lib.Dec.{eqb}
 use Rattle.timeline.specs.Design.{Design, invocation-count, made-of, invoked}
 use Rattle.timeline.specs.Flat.{sum-below, row-count, unit-count}
 use Rattle.entry.specs.Numbers.{component-number, invocation-number}
 use Rattle.reading.specs.Reader.{Row}
-use Rattle.reader.specs.Rows.{row-in}
 use Rattle.groups.specs.Groups.{design-of, Opened}
 use Rattle.expansion.specs.Notes.{put-note, first-note}
 use Rattle.expansion.specs.Noted.{capped, Notes-of, Alike, Noted}
@@ -21,12 +20,9 @@ pub record Opened-at (file table : List ℕ) (components n c : ℕ) : Type 0 whe
   pub all : components ≡ length (design-of file n)
   pub there : c < components
 
--- The record behind the ports of a component; and behind all of component c.
+-- The record behind the ports of a component.
 abbrev pub past-ports : Row → ℕ
 past-ports w = w .first + 1 + w .inputs + w .outputs
-
-unfoldable pub past-component : (table : List ℕ) (components n c : ℕ) → ℕ
-past-component table components n c = cond (ltb (c + 1) components) ((row-in table (c + 1)) .first) n
 
 -- The counts of the components below k, each stopped at 4,097.
 abbrev pub Counts : (count : ℕ → ℕ) → (k : ℕ) → List ℕ → Type 0

@@ -7,9 +7,9 @@ ghost use Rattle.timeline.specs.Design.{built, class, instance-count, invocatio
 ghost use Rattle.timeline.specs.Flat.{row-count, unit-count};
 ghost use Rattle.entry.specs.Numbers.{component-number};
 ghost use Rattle.reader.specs.Rows.{row-in};
-ghost use Rattle.groups.specs.Groups.{design-of, Lies, first-number, second-number};
+ghost use Rattle.groups.specs.Groups.{design-of, Lies, first-number, second-number, end-of};
 ghost use Rattle.expansion.specs.Noted.{capped};
-ghost use Rattle.counting.specs.Known.{Opened-at, past-ports, past-component, Counts, Units-before, kept-note, next-note, Noting, Known};
+ghost use Rattle.counting.specs.Known.{Opened-at, past-ports, Counts, Units-before, kept-note, next-note, Noting, Known};
 
 // An invocation: the invoked component, its instance, its offset.
 pub struct Invocation {
@@ -54,25 +54,13 @@ fn past_ports(table: &[u16; 320], c: usize) -> usize
     index(w.first) + 1 + index(w.inputs) + index(w.outputs)
 }
 
-// Where component c ends.
-fn past_component(table: &[u16; 320], components: usize, records: usize, c: usize) -> usize
-    requires { ⌜ (c < components) × (components ≤ 64) ⌝ }
-    ensures { λ r. ⌜ r ≡ past-component (now (table .entry)) components records c ⌝ }
-{
-    if c + 1 < components {
-        let w = reader::row_of(table, c + 1);
-        return index(w.first);
-    }
-    records
-}
-
 // Where the invocations of component c end: before its connections, one for each output.
 fn past_invocations(table: &[u16; 320], components: usize, records: usize, c: usize) -> usize
-    requires { ⌜ (c < components) × (components ≤ 64) × ((row-in (now table) c) .outputs ≤ past-component (now table) components records c) ⌝ }
-    ensures { λ r. ⌜ r ≡ past-component (now (table .entry)) components records c - (row-in (now (table .entry)) c) .outputs ⌝ }
+    requires { ⌜ (c < components) × (components ≤ 64) × ((row-in (now table) c) .outputs ≤ end-of (now table) components records c) ⌝ }
+    ensures { λ r. ⌜ r ≡ end-of (now (table .entry)) components records c - (row-in (now (table .entry)) c) .outputs ⌝ }
 {
     let w = reader::row_of(table, c);
-    past_component(table, components, records, c) - index(w.outputs)
+    groups::end_of(table, components, records, c) - index(w.outputs)
 }
 
 // The invocation in record i, of a component whose instances begin at record `first`.

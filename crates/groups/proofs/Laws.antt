@@ -1,14 +1,18 @@
 -- What stands in an opened file: each part of its design under its number, and the row of each component.
 -- Assumes nothing.
-use Prim.Native.Nat.{ℕ, zero, suc, _+_, _-_, _<_}
+use Prim.Native.Nat.{ℕ, zero, suc, _+_, _-_, _≤_, _<_}
+use mathlib.Core.Bool.{cond}
 use mathlib.Core.Path.{_≡_, sym, ap, _∙_}
 use mathlib.Core.List.{List, [], append-nil}
 use mathlib.Core.Logic.{_≢_}
 use native.Mathlib.Omega.{arith}
+use native.Mathlib.Numerals.{add-one}
 use native.Mathlib.Decide.{decLt}
 use lib.ListN.{length}
+use lib.Dec.{ltb}
+use borrow.Author.Tests.{lt-ltb, le-ltb}
 use Rattle.answers.specs.Answer.{accepted, Counts}
-use Rattle.numbers.specs.Numbers.{number, Bytes}
+use Rattle.numbers.specs.Numbers.{Bytes}
 use Rattle.timeline.specs.Design.{Design, built, class, delay, component, input-count, output-count, instance-count, invocation-count, connection-count, input, output, connection, made-of, call, instance, invoked, offset}
 use Rattle.entry.specs.Records as Records
 use Rattle.entry.specs.Records.{Record, part, records}
@@ -17,6 +21,7 @@ use Rattle.entry.specs.Entered.{design}
 use Rattle.entry.specs.Main.{accepted-exactly, each-stands, the-design}
 use Rattle.entry.specs.Laws.{next-component, all-components}
 use Rattle.reading.specs.Tests.{is-built}
+use Rattle.reading.specs.Reader.{Row}
 use Rattle.reader.specs.Rows.{row-in}
 use Rattle.look.specs.Look.{sixteen, look, kind}
 use Rattle.look.proofs.Laws.{sixteen-small}
@@ -25,7 +30,7 @@ use Rattle.verdict.specs.Judgement.{judgement, Filled}
 use Rattle.verdict.proofs.Whole.{Holds, length-from, looked, right}
 use Rattle.verdict.proofs.Passed.{passed, record-total, said-lawful}
 use Rattle.verdict.proofs.Counts.{count-bounds}
-use Rattle.groups.specs.Groups.{design-of, Opened, Lies, first-number, second-number, past-instances}
+use Rattle.groups.specs.Groups.{design-of, Opened, Lies, first-number, second-number, past-instances, end-of}
 use Rattle.groups.proofs.Past.{instances-go-on, instances-stop, instances-end}
 use Rattle.look.proofs.Light.{component-kind, connection-kind, instance-there, invocation-there, kind-is, first-is, second-is}
 
@@ -65,6 +70,9 @@ module _ {file rows : List ℕ} {n : ℕ} (h : Opened file rows n) where
 
     below : {i : ℕ} {x : Record} → At (records-of file n) i x → i < n
     below a = rw (length-from file 0 n) at (a .below)
+
+    pub component-below : component-number D c < n
+    component-below = below ((stands) .component-at)
 
     pub row-is : row-in rows c ≡ record { built = is-built (class D c); delay = delay D c; inputs = input-count D c; outputs = output-count D c; first = component-number D c }
     unfolding class delay input-count output-count
@@ -131,6 +139,29 @@ module _ {file rows : List ℕ} {n : ℕ} (h : Opened file rows n) where
         kind-is file i ∙ connection-kind (sixteen file i) (sixteen-small file i (h .small)) (connection D c o) (w .0)
 
   module _ (c : ℕ) (present : c < length D) where
+    -- A component ends where the next one begins, or with the file.
+    pub end-is : (components : ℕ) → components ≡ length D → end-of rows components n c ≡ component-number D (suc c)
+    unfolding end-of
+    end-is components e = go (decLt (c + 1) components)
+      where
+        go : Dec (c + 1 < components) → cond (ltb (c + 1) components) ((row-in rows (c + 1)) .first) n ≡ component-number D (suc c)
+        go (yes l) =
+            let k : c + 1 < length D = omega arith in
+            rw (lt-ltb (c + 1) components l) (ap (λ (w : Row). w .first) (row-is (c + 1) k) ∙ ap (component-number D) (add-one c))
+        go (no l) =
+            let k : suc c ≡ length D = omega arith in
+            rw (le-ltb (c + 1) components (omega arith)) (sym (ap (component-number D) k ∙ component-end))
+
+    pub next-below : component-number D (suc c) ≤ n
+    next-below = go (decLt (suc c) (length D))
+      where
+        go : Dec (suc c < length D) → component-number D (suc c) ≤ n
+        go (yes l) = let a = component-below (suc c) l in omega arith
+        go (no l) =
+            let e : suc c ≡ length D = omega arith in
+            let a = ap (component-number D) e ∙ component-end in
+            omega arith
+
     -- Where there are no invocations the connections begin where the instances end.
     no-calls : (o : ℕ) → invocation-count D c ≡ 0 → connection-number D c o ≡ invocation-number D c 0 + o
     unfolding connection-number

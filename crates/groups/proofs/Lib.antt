@@ -1,2 +1,3 @@
 pub mod Past
+pub mod Order
 pub mod Laws

@@ -5,7 +5,7 @@ use mathlib.Core.Bool.{cond}
 use mathlib.Core.Path.{_≡_}
 use mathlib.Core.List.{List}
 use lib.ListN.{length}
-use lib.Dec.{eqb}
+use lib.Dec.{ltb, eqb}
 use Rattle.numbers.specs.Numbers.{Bytes}
 use Rattle.blocks.specs.File.{record-place}
 use Rattle.look.specs.Look as Look
@@ -47,3 +47,7 @@ second-number file i = Look.second-number file i
 unfoldable pub past-instances : List ℕ → (left i : ℕ) → ℕ
 past-instances file zero i = i
 past-instances file (suc left) i = cond (eqb (kind file i) 3) (past-instances file left (suc i)) i
+
+-- The record at which component c ends: that of the next component, or where the file stops.
+unfoldable pub end-of : (rows : List ℕ) → (components records c : ℕ) → ℕ
+end-of rows components records c = cond (ltb (c + 1) components) ((row-in rows (c + 1)) .first) records

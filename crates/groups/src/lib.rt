@@ -1,8 +1,8 @@
-// What stands in a judged file under a record's number: an instance's component, an invocation's instance and offset, and where the instances of a component end.
+// What stands in a judged file under a record's number: an instance's component, an invocation's instance and offset, and where the instances of a component and the component itself end.
 ghost use mathlib.Core.Path.{_≡_};
 ghost use Prim.Native.Nat.{_-_, _*_, _/_, _≤_, _<_};
 ghost use lib.ListN.{length};
-ghost use Rattle.groups.specs.Groups.{Lies, first-number, second-number, past-instances};
+ghost use Rattle.groups.specs.Groups.{Lies, first-number, second-number, past-instances, end-of};
 
 // An invocation: the instance that it starts, and when.
 pub struct Call {
@@ -43,4 +43,16 @@ pub fn past_instances(file: &[u8], i: usize, n: usize) -> usize
         at += 1;
     }
     n
+}
+
+// The record at which component c ends: that of the next component, or where the file stops.
+pub fn end_of(rows: &[u16], components: usize, records: usize, c: usize) -> usize
+    requires { ⌜ (length (now rows) ≡ 320) × (components ≤ 64) × (c < components) ⌝ }
+    ensures { λ r. ⌜ r ≡ end-of (now (rows .entry)) components records c ⌝ }
+{
+    if c + 1 < components {
+        let row = reader::row_of(rows, c + 1);
+        return row.first as usize;
+    }
+    records
 }

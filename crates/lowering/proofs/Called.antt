@@ -11,7 +11,7 @@ use Rattle.timetable.specs.Rows.{go, first-state, last-state, go-row, guard-row
 use Rattle.timeline.specs.Design.{Design, input-count, instance-count, instance, invoked, offset}
 use Rattle.entry.specs.Numbers.{instance-number, invocation-number, argument-number}
 use Rattle.groups.specs.Groups.{Lies, first-number, second-number}
-use Rattle.groups.proofs.Laws.{lies, instance-below, invocation-below, instance-says, invocation-says, next-invocation}
+use Rattle.groups.proofs.Laws.{lies, component-below, next-below, instance-below, invocation-below, instance-says, invocation-says, next-invocation}
 use Rattle.rows.specs.declared.Use.{Use}
 use Rattle.rows.specs.Rows as Rows
 use Rattle.rows.specs.Rows.{lasting, In-range}
@@ -20,7 +20,7 @@ use Rattle.lowering.specs.Stands.{design, called, Stands, Begins, Use-of
 use Rattle.lowering.proofs.Places.{one-more, next-within, no-more}
 use Rattle.lowering.proofs.Reached.{Lasts}
 use Rattle.lowering.proofs.Lists.{list-same}
-use Rattle.lowering.proofs.Found.{component-below, counts-of, next-below, input-found, lasts, lasting-most, connections-end}
+use Rattle.lowering.proofs.Found.{counts-of, input-found, lasts, lasting-most, connections-end}
 
 module _ {file rows : List ℕ} {b : Built} (h : Stands file rows b) where
   abbrev E : Design

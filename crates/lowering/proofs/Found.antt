@@ -1,29 +1,23 @@
 -- What stands in a judged file for one of its components: its ports and how long it lasts, where its groups of records begin and where it ends.
 -- Assumes nothing.
 use Prim.Native.Nat.{ℕ, suc, _+_, _-_, _≤_, _<_}
-use mathlib.Core.Path.{_≡_, sym, ap, _∙_}
-use mathlib.Core.List.{List, [], append-nil}
+use mathlib.Core.Path.{_≡_, ap, _∙_}
+use mathlib.Core.List.{List}
 use native.Mathlib.Omega.{arith}
 use native.Mathlib.Nat.{le-max-left, le-max-right, max-le}
-use native.Mathlib.Numerals.{add-one}
 use native.Mathlib.Decide.{decLt}
 use lib.ListN.{length}
-use borrow.Author.Tests.{lt-ltb, le-ltb}
 use Rattle.timetable.specs.Rows.{go}
 use Rattle.timeline.specs.Design.{Design, Port, output, built, class, input-count, output-count, invocation-count, input}
 use Rattle.timeline.specs.Rules.{Counts}
-use Rattle.entry.specs.Records.{records}
 use Rattle.entry.specs.Numbers.{component-number, input-number, output-number, instance-number, invocation-number, connection-number}
-use Rattle.entry.specs.Main.{each-stands}
-use Rattle.verdict.proofs.Whole.{length-from}
 use Rattle.reading.specs.Reader.{Row}
 use Rattle.reader.specs.Rows.{row-in}
 use Rattle.look.specs.Look.{look}
-use Rattle.groups.specs.Groups.{design-of, Opened}
-use Rattle.groups.proofs.Laws.{component-end, row-is, input-says, output-says, component-ends}
+use Rattle.groups.specs.Groups.{design-of, Opened, end-of}
+use Rattle.groups.proofs.Laws.{row-is, input-says, output-says, component-ends, end-is, next-below}
 use Rattle.rows.specs.Rows.{latest, lasting}
 use Rattle.rows.proofs.Laws.{latest-above, latest-least}
-use Rattle.lowering.specs.Stands.{end-in}
 use Rattle.lowering.proofs.Places.{from-first}
 use Rattle.lowering.proofs.Reached.{Lasts}
 
@@ -31,26 +25,9 @@ module _ {file rows : List ℕ} {n : ℕ} (h : Opened file rows n) where
   abbrev D : Design
   D = design-of file n
 
-  pub component-below : (c : ℕ) → c < length D → component-number D c < n
-  component-below c there =
-      let e = ap length (append-nil (records D) ∙ h .records-are) ∙ length-from file 0 n in
-      let a = (each-stands D [] c there) .component-at .below in
-      omega arith
-
   module _ (c : ℕ) (there : c < length D) where
     pub counts-of : Counts D c
     counts-of = h .lawful .counts c there
-
-    -- A component ends with the file at the latest.
-    pub next-below : component-number D (suc c) ≤ n
-    next-below = go (decLt (suc c) (length D))
-      where
-        go : Dec (suc c < length D) → component-number D (suc c) ≤ n
-        go (yes l) = let a = component-below (suc c) l in omega arith
-        go (no l) =
-            let e : suc c ≡ length D = omega arith in
-            let a = ap (component-number D) e ∙ component-end h in
-            omega arith
 
     -- The port of input i, and that of output o, counted from the component record on.
     pub input-found : (i : ℕ) → i < input-count D c → look file (component-number D c + 1 + i) ≡ input D c i
@@ -109,34 +86,23 @@ module _ {file rows : List ℕ} {n : ℕ} (h : Opened file rows n) where
         let d = eo ∙ ap (λ (v : Row). v .outputs) (e ∙ row-is h c there) in
         omega arith
 
-    end-is : (components : ℕ) → components ≡ length D → end-in rows components n c ≡ component-number D (suc c)
-    end-is components e = go (decLt (c + 1) components)
-      where
-        go : Dec (c + 1 < components) → end-in rows components n c ≡ component-number D (suc c)
-        go (yes l) =
-            let k : c + 1 < length D = omega arith in
-            rw (lt-ltb (c + 1) components l) (ap (λ (w : Row). w .first) (row-is h (c + 1) k) ∙ ap (component-number D) (add-one c))
-        go (no l) =
-            let k : suc c ≡ length D = omega arith in
-            rw (le-ltb (c + 1) components (omega arith)) (sym (ap (component-number D) k ∙ component-end h))
-
     module _ (is-built : class D c ≡ built) where
       pub connections-end : component-number D (suc c) ≡ connection-number D c 0 + output-count D c
       unfolding connection-number
       connections-end = let a = component-ends h c there is-built in omega arith
 
       -- Where the connections end, by the table and the component's row.
-      pub connections-to : (w : Row) (components o e : ℕ) → components ≡ length D → w ≡ row-in rows c → o ≡ w .outputs → e ≡ end-in rows components n c
+      pub connections-to : (w : Row) (components o e : ℕ) → components ≡ length D → w ≡ row-in rows c → o ≡ w .outputs → e ≡ end-of rows components n c
           → e ≡ connection-number D c 0 + o
       connections-to w components o e ec ew eo ee =
           let d = eo ∙ ap (λ (v : Row). v .outputs) (ew ∙ row-is h c there) in
-          let a = ee ∙ end-is components ec ∙ connections-end in
+          let a = ee ∙ end-is h c there components ec ∙ connections-end in
           omega arith
 
       pub instances-below : instance-number D c 0 ≤ n
       unfolding connection-number instance-number invocation-number
       instances-below =
           let a = connections-end in
-          let k = next-below in
+          let k = next-below h c there in
           let f = from-first D c (invocation-count D c) in
           omega arith

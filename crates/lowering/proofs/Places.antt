@@ -1,34 +1,17 @@
 -- Rows go with records: after the first row, each record from the first invocation on has one, in the order of the records.
 -- Assumes nothing.
-use Prim.Native.Nat.{ℕ, zero, suc, _+_, _-_, _≤_, _<_}
+use Prim.Native.Nat.{ℕ, zero, suc, _+_, _≤_, _<_}
 use mathlib.Core.Path.{_≡_, ap}
 use native.Mathlib.Omega.{arith}
-use native.Mathlib.Nat.{zero-add}
 use native.Mathlib.Decide.{decLt}
 use lib.ListN.{length}
 use Rattle.timeline.specs.Design.{Design, output-count, invocation-count}
 use Rattle.timeline.specs.Rules.{Lawful}
 use Rattle.entry.specs.Numbers.{invocation-number, connection-number}
+use Rattle.groups.proofs.Order.{up-to-last, none-behind}
 use Rattle.timetable.specs.Places.{go-place, out-place, row-count}
 
 module _ (D : Design) (c : ℕ) where
-  -- Invocation d further on stands at least d records further on.
-  rises : (d j : ℕ) → invocation-number D c j + d ≤ invocation-number D c (d + j)
-  unfolding invocation-number
-  rises zero j = rw (zero-add j) (omega arith)
-  rises (suc d) j =
-      let h = rises d j in
-      let e : suc d + j ≡ suc (d + j) = omega arith in
-      rw e (omega arith)
-
-  up-to-last : (j : ℕ) → j ≤ invocation-count D c → invocation-number D c j + (invocation-count D c - j) ≤ connection-number D c 0
-  unfolding connection-number
-  up-to-last j l =
-      let e : invocation-count D c - j + j ≡ invocation-count D c = omega arith in
-      let h = rises (invocation-count D c - j) j in
-      let k = ap (invocation-number D c) e in
-      omega arith
-
   pub from-first : (j : ℕ) → invocation-number D c 0 ≤ invocation-number D c j
   unfolding invocation-number
   from-first zero = omega arith
@@ -47,10 +30,12 @@ module _ (D : Design) (c : ℕ) where
           absurd (omega arith)
 
   pub next-within : (j : ℕ) → j < invocation-count D c → invocation-number D c (suc j) ≤ connection-number D c 0
-  next-within j l = let h = up-to-last (suc j) l in omega arith
+  unfolding connection-number
+  next-within j l = let h = up-to-last D c (suc j) l in omega arith
 
   pub no-more : (j : ℕ) → j ≤ invocation-count D c → connection-number D c 0 ≤ invocation-number D c j → j ≡ invocation-count D c
-  no-more j l k = let h = up-to-last j l in omega arith
+  unfolding connection-number
+  no-more j l k = none-behind D c j l (omega arith)
 
   module _ (lawful : Lawful D) (there : c < length D) where
     pub number-place : (j : ℕ) → j ≤ invocation-count D c → go-place D c j + invocation-number D c 0 ≡ 1 + invocation-number D c j

@@ -1,16 +1,13 @@
 -- Where the records of the component that is lowered stand in a judged file, and what an invocation of it is.
 -- Assumes nothing.
-use Prim.Native.Nat.{ℕ, _+_, _≤_, _<_}
-use mathlib.Core.Bool.{cond}
+use Prim.Native.Nat.{ℕ, _≤_, _<_}
 use mathlib.Core.Path.{_≡_}
 use mathlib.Core.List.{List}
 use lib.ListN.{length}
-use lib.Dec.{ltb}
 use Rattle.timeline.specs.Design.{Design, built, class, delay, input-count, output-count, invocation-count, instance, invoked, offset}
 use Rattle.timeline.specs.Flat.{join-below}
 use Rattle.entry.specs.Numbers.{component-number, instance-number, invocation-number, connection-number}
 use Rattle.timetable.specs.Rows.{Row, invocation-rows, rows}
-use Rattle.reader.specs.Rows.{row-in}
 use Rattle.groups.specs.Groups.{design-of, Opened}
 use Rattle.rows.specs.declared.Use.{Use}
 use Rattle.lowering.specs.declared.Built.{Built}
@@ -56,7 +53,3 @@ pub record Use-of (D : Design) (c j : ℕ) (u : Use) : Type 0 where
   pub inputs-are : u .inputs ≡ input-count D (invoked D c j)
   pub outputs-are : u .outputs ≡ output-count D (invoked D c j)
   pub first-is : u .first ≡ component-number D (invoked D c j)
-
--- Where component c ends: at the next component's record, or with the file.
-abbrev pub end-in : (rows : List ℕ) → (components records c : ℕ) → ℕ
-end-in rows components records c = cond (ltb (c + 1) components) ((row-in rows (c + 1)) .first) records

@@ -20,7 +20,7 @@ ghost use Rattle.signatures.specs.Rows.{zero-row};
 ghost use Rattle.verdict.specs.Judgement.{judgement, Filled};
 ghost use Rattle.groups.specs.Groups.{design-of, Opened};
 ghost use Rattle.lowering.specs.Answer.{component-rows, how-many, left, lower-answer, lower-left};
-ghost use Rattle.lowering.specs.Stands.{design, called, rows-called, all-rows, Stands, Begins, Use-of, end-in};
+ghost use Rattle.lowering.specs.Stands.{design, called, rows-called, all-rows, Stands, Begins, Use-of};
 
 // A built component: how many records the file has, the component's number and what its row in the table says, and the record at which each of its groups begins.
 pub struct Built {
@@ -118,18 +118,6 @@ fn put_rows(file: &[u8], rows: &[u16], b: Built, out: &mut [u8])
     );
 }
 
-// The record at which component c ends: that of the next component, or where the file stops.
-fn end_of(rows: &[u16], components: usize, records: usize, c: usize) -> usize
-    requires { ⌜ (length (now rows) ≡ 320) × (components ≤ 64) × (c < components) ⌝ }
-    ensures { λ r. ⌜ r ≡ end-in (now (rows .entry)) components records c ⌝ }
-{
-    if c + 1 < components {
-        let row = reader::row_of(rows, c + 1);
-        return size(row.first);
-    }
-    records
-}
-
 // Component c, which is built, and where the groups of its records begin.
 fn built_at(file: &[u8], rows: &[u16], components: usize, records: usize, c: usize) -> Built
     requires { ⌜ Opened (now file) (now rows) records × (components ≡ length (design-of (now file) records)) × (c < components) × (class (design-of (now file) records) c ≡ built) ⌝ }
@@ -138,7 +126,7 @@ fn built_at(file: &[u8], rows: &[u16], components: usize, records: usize, c: usi
     let row = reader::row_of(rows, c);
     let instances = size(row.first) + 1 + size(row.inputs) + size(row.outputs);
     let invocations = groups::past_instances(file, instances, records);
-    let end = end_of(rows, components, records, c);
+    let end = groups::end_of(rows, components, records, c);
     Built {
         records,
         number: c,
