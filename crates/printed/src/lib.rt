@@ -3,19 +3,28 @@ use answers::Verdict;
 use answers::Written;
 
 // A component has at most 1,105 rows: one of its own, 64 invocations of 16 inputs each, 16 outputs. A leaf prints nothing.
-fn component(fd: i32, file: &[u8], c: usize) {
+fn component(fd: i32, out: &mut [u8; 4096], at: usize, file: &[u8], c: usize) -> usize {
     let mut rows = [0u8; 17680];
     match lowering::lower_alone(file, c, &mut rows) {
-        Written::Done(k) => lines::lowered_rows(fd, file, c, &rows, k),
-        Written::Refused(_) => {}
+        Written::Done(k) => lines::lowered_rows(fd, out, at, file, c, &rows, k),
+        Written::Refused(_) => at,
     }
 }
 
+// The last line, and all that has been gathered.
+fn end(fd: i32, out: &mut [u8; 4096], at: usize) {
+    let last = pieces::line(fd, out, at);
+    let behind = pieces::word(out, last, b"end\n");
+    pieces::rest(fd, out, behind);
+}
+
 fn components(fd: i32, file: &[u8], count: usize) {
+    let mut out = [0u8; 4096];
+    let mut at = 0;
     for c in 0..count {
-        component(fd, file, c);
+        at = component(fd, &mut out, at, file, c);
     }
-    io::write_all(fd, b"end\n");
+    end(fd, &mut out, at);
 }
 
 // The control rows of every built component, or the refusal.
@@ -34,8 +43,9 @@ pub fn listed(fd: i32, file: &[u8], c: usize) {
     let mut rows = [0u8; 32768];
     match listing::list_alone(file, c, &mut rows) {
         Written::Done(k) => {
-            lines::started_rows(fd, &rows, k);
-            io::write_all(fd, b"end\n");
+            let mut out = [0u8; 4096];
+            let at = lines::started_rows(fd, &mut out, 0, &rows, k);
+            end(fd, &mut out, at);
         }
         Written::Refused(r) => report::refusal(fd, r),
     }

@@ -6,10 +6,10 @@ use Rattle.printed.proofs.components.Statement.{statement}
 use Rattle.printed.proofs.components.Tie as tie
 
 abbrev Inv-loop : tie.InvT-loop
-Inv-loop fd file count c₀ t5 c = c ≤ count
+Inv-loop fd file count out₀ at₀ c₀ out at c = c ≤ count
 
 abbrev μ-loop : tie.MeasureT-loop
-μ-loop fd file count c₀ t5 c = count - c
+μ-loop fd file count out₀ at₀ c₀ out at c = count - c
 
 loop-holds : tie.Need-loop-holds Inv-loop μ-loop
 loop-holds c = search needs
@@ -26,11 +26,8 @@ loop-less c = search needs
 loop-again : tie.Need-loop-again Inv-loop μ-loop
 loop-again c = search needs
 
-slice-aggregate-write-all : tie.Need-slice-aggregate-write-all Inv-loop μ-loop
-slice-aggregate-write-all c = search needs
-
-write-all-requires : tie.Need-write-all-requires Inv-loop μ-loop
-write-all-requires c κs = search needs
+end-requires : tie.Need-end-requires Inv-loop μ-loop
+end-requires c κs = search needs
 
 returns : tie.Need-returns Inv-loop μ-loop
 returns c = search needs
@@ -46,6 +43,5 @@ components-spec =
     add-c
     loop-less
     loop-again
-    slice-aggregate-write-all
-    write-all-requires
+    end-requires
     returns)

@@ -7,10 +7,10 @@ use Rattle.shown.proofs.list.Statement.{statement}
 use Rattle.shown.proofs.list.Tie as tie
 
 abbrev Inv-loop : tie.InvT-loop
-Inv-loop fd list p₀ at₀ p at = at ≤ length list
+Inv-loop fd list out₀ next₀ p₀ at₀ out next p at = at ≤ length list
 
 abbrev μ-loop : tie.MeasureT-loop
-μ-loop fd list p₀ at₀ p at = length list - at
+μ-loop fd list out₀ next₀ p₀ at₀ out next p at = length list - at
 
 first-requires : tie.Need-first-requires Inv-loop μ-loop
 first-requires c κs = search needs
@@ -21,20 +21,29 @@ loop-holds c = search needs
 sub-loop : tie.Need-sub-loop Inv-loop μ-loop
 sub-loop c = search needs
 
-add-record : tie.Need-add-record Inv-loop μ-loop
-add-record c = search needs
+add-bytes : tie.Need-add-bytes Inv-loop μ-loop
+add-bytes c = search needs
 
-sub-record : tie.Need-sub-record Inv-loop μ-loop
-sub-record c = search needs
+sub-bytes : tie.Need-sub-bytes Inv-loop μ-loop
+sub-bytes c = search needs
 
-part-record-start : tie.Need-part-record-start Inv-loop μ-loop
-part-record-start c = search needs
+part-bytes-start : tie.Need-part-bytes-start Inv-loop μ-loop
+part-bytes-start c = search needs
 
-part-record-end : tie.Need-part-record-end Inv-loop μ-loop
-part-record-end c = search needs
+part-bytes-end : tie.Need-part-bytes-end Inv-loop μ-loop
+part-bytes-end c = search needs
 
-record-requires : tie.Need-record-requires Inv-loop μ-loop
-record-requires c κs = search needs
+decode-requires : tie.Need-decode-requires Inv-loop μ-loop
+decode-requires c κs = search needs
+
+number-of-requires : tie.Need-number-of-requires Inv-loop μ-loop
+number-of-requires c κs = search needs
+
+line-requires : tie.Need-line-requires Inv-loop μ-loop
+line-requires c κs = search needs
+
+after-requires : tie.Need-after-requires Inv-loop μ-loop
+after-requires c κs = search needs
 
 add-at : tie.Need-add-at Inv-loop μ-loop
 add-at c = search needs
@@ -44,6 +53,9 @@ loop-less c = search needs
 
 loop-again : tie.Need-loop-again Inv-loop μ-loop
 loop-again c = search needs
+
+rest-requires : tie.Need-rest-requires Inv-loop μ-loop
+rest-requires c κs = search needs
 
 returns : tie.Need-returns Inv-loop μ-loop
 returns c = search needs
@@ -57,12 +69,16 @@ list-spec =
     first-requires
     loop-holds
     sub-loop
-    add-record
-    sub-record
-    part-record-start
-    part-record-end
-    record-requires
+    add-bytes
+    sub-bytes
+    part-bytes-start
+    part-bytes-end
+    decode-requires
+    number-of-requires
+    line-requires
+    after-requires
     add-at
     loop-less
     loop-again
+    rest-requires
     returns)

@@ -1,40 +1,51 @@
--- `shown::raw` is safe and ends. The invariant: what is printed lies within the bytes.
+-- `shown::raw` meets its contract. Three bytes of text for each byte.
 -- Assumes nothing.
-use Prim.Native.Nat.{_-_, _≤_}
-use lib.ListN.{length}
+use Prim.Native.Nat.{_+_, _-_, _*_, _≤_}
 use borrow.Author.Needs.{needs}
 use Rattle.shown.proofs.raw.Statement.{statement}
 use Rattle.shown.proofs.raw.Tie as tie
 
 abbrev Inv-loop : tie.InvT-loop
-Inv-loop fd bytes i₀ t5 i = i ≤ length bytes
+Inv-loop out₀ from bytes at₀ i₀ out at i = (i ≤ 16) × (at ≤ from + 3 + 3 * i)
 
 abbrev μ-loop : tie.MeasureT-loop
-μ-loop fd bytes i₀ t5 i = length bytes - i
+μ-loop out₀ from bytes at₀ i₀ out at i = 16 - i
 
-slice-aggregate-write-all : tie.Need-slice-aggregate-write-all Inv-loop μ-loop
-slice-aggregate-write-all c = search needs
+slice-aggregate-word : tie.Need-slice-aggregate-word Inv-loop μ-loop
+slice-aggregate-word c = search needs
 
-write-all-requires : tie.Need-write-all-requires Inv-loop μ-loop
-write-all-requires c κs = search needs
+word-requires : tie.Need-word-requires Inv-loop μ-loop
+word-requires c κs = search needs
 
 loop-holds : tie.Need-loop-holds Inv-loop μ-loop
 loop-holds c = search needs
 
-slice-aggregate-write-all-2 : tie.Need-slice-aggregate-write-all-2 Inv-loop μ-loop
-slice-aggregate-write-all-2 c = search needs
+shared-slice-read-b : tie.Need-shared-slice-read-b Inv-loop μ-loop
+shared-slice-read-b c = search needs
 
-write-all-requires-2 : tie.Need-write-all-requires-2 Inv-loop μ-loop
-write-all-requires-2 c κs = search needs
+element-write-out : tie.Need-element-write-out Inv-loop μ-loop
+element-write-out c = search needs
 
-shared-slice-read-wide : tie.Need-shared-slice-read-wide Inv-loop μ-loop
-shared-slice-read-wide c = search needs
+glyph-requires : tie.Need-glyph-requires Inv-loop μ-loop
+glyph-requires c κs = search needs
 
-wide-requires : tie.Need-wide-requires Inv-loop μ-loop
-wide-requires c κs = search needs
+add-out : tie.Need-add-out Inv-loop μ-loop
+add-out c = search needs
 
-print-hex-requires : tie.Need-print-hex-requires Inv-loop μ-loop
-print-hex-requires c κs = search needs
+element-write-out-2 : tie.Need-element-write-out-2 Inv-loop μ-loop
+element-write-out-2 c = search needs
+
+glyph-requires-2 : tie.Need-glyph-requires-2 Inv-loop μ-loop
+glyph-requires-2 c κs = search needs
+
+add-out-2 : tie.Need-add-out-2 Inv-loop μ-loop
+add-out-2 c = search needs
+
+element-write-out-3 : tie.Need-element-write-out-3 Inv-loop μ-loop
+element-write-out-3 c = search needs
+
+add-at : tie.Need-add-at Inv-loop μ-loop
+add-at c = search needs
 
 add-i : tie.Need-add-i Inv-loop μ-loop
 add-i c = search needs
@@ -54,14 +65,18 @@ raw-spec =
     (tie.spec
     Inv-loop
     μ-loop
-    slice-aggregate-write-all
-    write-all-requires
+    slice-aggregate-word
+    word-requires
     loop-holds
-    slice-aggregate-write-all-2
-    write-all-requires-2
-    shared-slice-read-wide
-    wide-requires
-    print-hex-requires
+    shared-slice-read-b
+    element-write-out
+    glyph-requires
+    add-out
+    element-write-out-2
+    glyph-requires-2
+    add-out-2
+    element-write-out-3
+    add-at
     add-i
     loop-less
     loop-again
