@@ -19,10 +19,10 @@ use Rattle.timetable.specs.Bytes.{rows-bytes}
 use Rattle.reader.specs.Rows.{row-in}
 use Rattle.groups.specs.Groups.{design-of, Opened}
 use Rattle.groups.proofs.Laws.{row-is}
-use Rattle.lowering.specs.declared.Built.{Built}
-use Rattle.lowering.specs.Stands.{all-rows, Stands}
+use Rattle.control.specs.declared.Built.{Built}
+use Rattle.control.specs.Stands.{all-rows, Stands}
 use Rattle.lowering.specs.Answer.{component-rows, left}
-use Rattle.lowering.proofs.Written.{rows-total}
+use Rattle.lowering.proofs.Parts.{rows-total}
 
 pub built-class : (k : Class) → is-built k ≡ true → k ≡ built
 unfolding is-built

@@ -1,8 +1,3 @@
--- Rows and records, Places; n, Reached; what stands in the file, Found and Called; what is written, Written; what is answered, Answers.
-pub mod Lists
-pub mod Places
-pub mod Reached
-pub mod Found
-pub mod Called
-pub mod Written
+-- What is written, Parts; what is answered, Answers.
+pub mod Parts
 pub mod Answers

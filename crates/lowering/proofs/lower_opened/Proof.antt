@@ -7,8 +7,8 @@ use borrow.Author.Needs.{needs}
 use lib.ListN.{length-take}
 use Rattle.answers.specs.Answer.{written, accepted}
 use Rattle.lowering.proofs.Answers.{can-lower, absent, short, fits, count-is, rows-written}
-use Rattle.lowering.proofs.Called.{last-below}
-use Rattle.lowering.proofs.Written.{rows-total, connections-after}
+use Rattle.control.proofs.Called.{last-below}
+use Rattle.lowering.proofs.Parts.{rows-total, connections-after}
 use Rattle.lowering.proofs.lower_opened.Statement.{statement}
 use Rattle.lowering.proofs.lower_opened.Tie as tie
 

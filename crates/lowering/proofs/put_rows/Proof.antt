@@ -6,8 +6,8 @@ use native.Mathlib.Omega.{arith}
 use borrow.Author.Needs.{needs}
 use lib.ListN.{length-take, length-drop}
 use Rattle.rows.proofs.Laws.{part-long}
-use Rattle.lowering.proofs.Called.{last-below, few-ports}
-use Rattle.lowering.proofs.Written.{rows-total, connections-after, first-written, calls-written, outputs-written, all-long}
+use Rattle.control.proofs.Called.{last-below, few-ports}
+use Rattle.lowering.proofs.Parts.{rows-total, connections-after, first-written, calls-written, outputs-written, all-long}
 use Rattle.lowering.proofs.put_rows.Statement.{statement}
 use Rattle.lowering.proofs.put_rows.Tie as tie
 

@@ -15,12 +15,12 @@ use Rattle.groups.proofs.Laws.{lies, component-below, next-below, instance-belo
 use Rattle.rows.specs.declared.Use.{Use}
 use Rattle.rows.specs.Rows as Rows
 use Rattle.rows.specs.Rows.{lasting, In-range}
-use Rattle.lowering.specs.declared.Built.{Built}
-use Rattle.lowering.specs.Stands.{design, called, Stands, Begins, Use-of}
-use Rattle.lowering.proofs.Places.{one-more, next-within, no-more}
-use Rattle.lowering.proofs.Reached.{Lasts}
-use Rattle.lowering.proofs.Lists.{list-same}
-use Rattle.lowering.proofs.Found.{counts-of, input-found, lasts, lasting-most, connections-end}
+use Rattle.control.specs.declared.Built.{Built}
+use Rattle.control.specs.Stands.{design, called, Stands, Begins, Use-of}
+use Rattle.control.proofs.Places.{one-more, next-within, no-more}
+use Rattle.control.proofs.Reached.{Lasts}
+use Rattle.control.proofs.Lists.{list-same}
+use Rattle.control.proofs.Found.{counts-of, input-found, lasts, lasting-most, connections-end}
 
 module _ {file rows : List ℕ} {b : Built} (h : Stands file rows b) where
   abbrev E : Design

@@ -1,11 +1,11 @@
--- `lowering::can_lower` meets its contract.
+-- `control::can_lower` meets its contract.
 -- Assumes nothing.
 use mathlib.Core.Path.{refl, ap}
 use borrow.Author.Tests.{lt-ltb, le-ltb}
 use borrow.Author.Needs.{needs}
 use Rattle.reading.specs.Reader.{Row}
-use Rattle.lowering.proofs.can_lower.Statement.{statement}
-use Rattle.lowering.proofs.can_lower.Tie as tie
+use Rattle.control.proofs.can_lower.Statement.{statement}
+use Rattle.control.proofs.can_lower.Tie as tie
 
 row-of-requires : tie.Need-row-of-requires
 row-of-requires c κs = search needs

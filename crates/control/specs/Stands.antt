@@ -10,7 +10,7 @@ use Rattle.entry.specs.Numbers.{component-number, instance-number, invocation-n
 use Rattle.timetable.specs.Rows.{Row, invocation-rows, rows}
 use Rattle.groups.specs.Groups.{design-of, Opened}
 use Rattle.rows.specs.declared.Use.{Use}
-use Rattle.lowering.specs.declared.Built.{Built}
+use Rattle.control.specs.declared.Built.{Built}
 
 -- The design that the file says.
 abbrev pub design : List ℕ → Built → Design

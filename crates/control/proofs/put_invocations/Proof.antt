@@ -1,4 +1,4 @@
--- `lowering::put_invocations` meets its contract. The invariant: the rows of the invocations so far, and behind them the lent bytes as they were.
+-- `control::put_invocations` meets its contract. The invariant: the rows of the invocations so far, and behind them the lent bytes as they were.
 -- Assumes nothing.
 use Prim.Native.Nat.{ℕ, _+_, _-_, _*_}
 use mathlib.Core.Path.{_≡_, refl, ap, _∙_}
@@ -8,11 +8,11 @@ use borrow.Author.Needs.{needs}
 use mathlib.Core.List.{_++_}
 use Rattle.timetable.specs.Bytes.{rows-bytes}
 use Rattle.rows.proofs.Laws.{part-long, rows-end, rows-long}
-use Rattle.lowering.specs.Stands.{Begins, rows-called}
-use Rattle.lowering.proofs.Called.{last-below, first-call, calls-done, few-calls, in-range, next-call, call-within}
-use Rattle.lowering.proofs.Written.{calls-from, calls-long, call-more}
-use Rattle.lowering.proofs.put_invocations.Statement.{statement}
-use Rattle.lowering.proofs.put_invocations.Tie as tie
+use Rattle.control.specs.Stands.{Begins, rows-called}
+use Rattle.control.proofs.Called.{last-below, first-call, calls-done, few-calls, in-range, next-call, call-within}
+use Rattle.control.proofs.Written.{calls-from, calls-long, call-more}
+use Rattle.control.proofs.put_invocations.Statement.{statement}
+use Rattle.control.proofs.put_invocations.Tie as tie
 
 abbrev Inv-loop : tie.InvT-loop
 Inv-loop file rows b out₀ j₀ i₀ out j i = Begins file b j i × (length out ≡ length out₀) × (out ≡ rows-bytes (rows-called file b j) ++ drop (16 * (i - b .invocations)) out₀)

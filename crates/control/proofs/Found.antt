@@ -18,8 +18,8 @@ use Rattle.groups.specs.Groups.{design-of, Opened, end-of}
 use Rattle.groups.proofs.Laws.{row-is, input-says, output-says, component-ends, end-is, next-below}
 use Rattle.rows.specs.Rows.{latest, lasting}
 use Rattle.rows.proofs.Laws.{latest-above, latest-least}
-use Rattle.lowering.proofs.Places.{from-first}
-use Rattle.lowering.proofs.Reached.{Lasts}
+use Rattle.control.proofs.Places.{from-first}
+use Rattle.control.proofs.Reached.{Lasts}
 
 module _ {file rows : List ℕ} {n : ℕ} (h : Opened file rows n) where
   abbrev D : Design

@@ -1,15 +1,15 @@
--- `lowering::states` meets its contract. The invariant: the greatest so far covers the own ports and the invocations so far, and is not above n.
+-- `control::states` meets its contract. The invariant: the greatest so far covers the own ports and the invocations so far, and is not above n.
 -- Assumes nothing.
 use Prim.Native.Nat.{_-_}
 use native.Mathlib.Omega.{arith}
 use borrow.Author.Needs.{needs}
 use Rattle.rows.specs.Rows.{lasting}
 use Rattle.timeline.specs.Design.{offset}
-use Rattle.lowering.specs.Stands.{design, Begins}
-use Rattle.lowering.proofs.Reached.{Reached, reached-own, reached-next, reached-last}
-use Rattle.lowering.proofs.Called.{first-below, last-below, few-ports, own-lasts, first-call, calls-done, few-calls, called-there, in-range, few-outputs, use-lasts, use-lasting, next-call, call-within}
-use Rattle.lowering.proofs.states.Statement.{statement}
-use Rattle.lowering.proofs.states.Tie as tie
+use Rattle.control.specs.Stands.{design, Begins}
+use Rattle.control.proofs.Reached.{Reached, reached-own, reached-next, reached-last}
+use Rattle.control.proofs.Called.{first-below, last-below, few-ports, own-lasts, first-call, calls-done, few-calls, called-there, in-range, few-outputs, use-lasts, use-lasting, next-call, call-within}
+use Rattle.control.proofs.states.Statement.{statement}
+use Rattle.control.proofs.states.Tie as tie
 
 abbrev Inv-loop : tie.InvT-loop
 Inv-loop file rows b most₀ j₀ i₀ most j i = Begins file b j i × Reached (design file b) (b .number) j most

@@ -1,4 +1,4 @@
--- `lowering::use_at` meets its contract. The invocation's record names the instance, the instance's record the component, and the table has its row.
+-- `control::use_at` meets its contract. The invocation's record names the instance, the instance's record the component, and the table has its row.
 -- Assumes nothing.
 use mathlib.Core.Path.{refl, ap, _∙_}
 use native.Mathlib.Omega.{arith}
@@ -6,9 +6,9 @@ use borrow.Author.Needs.{needs}
 use Rattle.reading.specs.Reader.{Row}
 use Rattle.groups.proofs.Laws.{row-is}
 use Rattle.reader.specs.Rows.{row-in}
-use Rattle.lowering.proofs.Called.{call-lies, call-says, instance-lies, component-says, invoked-there, invoked-few}
-use Rattle.lowering.proofs.use_at.Statement.{statement}
-use Rattle.lowering.proofs.use_at.Tie as tie
+use Rattle.control.proofs.Called.{call-lies, call-says, instance-lies, component-says, invoked-there, invoked-few}
+use Rattle.control.proofs.use_at.Statement.{statement}
+use Rattle.control.proofs.use_at.Tie as tie
 
 call-at-requires : tie.Need-call-at-requires
 call-at-requires c κs = call-lies (c .before .before .pre .0) (c .before .before .pre .1) (c .before .before .pre .2)

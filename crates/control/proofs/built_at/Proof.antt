@@ -1,4 +1,4 @@
--- `lowering::built_at` meets its contract. The row gives the counts and the first record; the instances end where no further one stands, and the connections are the last records.
+-- `control::built_at` meets its contract. The row gives the counts and the first record; the instances end where no further one stands, and the connections are the last records.
 -- Assumes nothing.
 use Prim.Native.Nat.{ℕ, _-_}
 use mathlib.Core.Path.{refl, ap, _∙_}
@@ -7,9 +7,9 @@ use borrow.Author.Needs.{needs}
 use Rattle.reading.specs.Reader.{Row}
 use Rattle.groups.specs.Groups.{past-instances}
 use Rattle.groups.proofs.Laws.{row-is, past-is}
-use Rattle.lowering.proofs.Found.{instances-from, connections-to, instances-below}
-use Rattle.lowering.proofs.built_at.Statement.{statement}
-use Rattle.lowering.proofs.built_at.Tie as tie
+use Rattle.control.proofs.Found.{instances-from, connections-to, instances-below}
+use Rattle.control.proofs.built_at.Statement.{statement}
+use Rattle.control.proofs.built_at.Tie as tie
 
 row-of-requires : tie.Need-row-of-requires
 row-of-requires c κs = search needs
