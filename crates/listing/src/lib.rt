@@ -1,15 +1,13 @@
-// The flat listing of one component of a file: when each of its leaf units starts.
+// The flat listing of one component of a judged file: when each of its leaf units starts.
 use answers::Fault;
 use answers::Refusal;
 use answers::Verdict;
 use answers::Written;
-use signatures::Signature;
 use verdict::Opening;
 ghost use mathlib.Core.Path.{_≡_};
-ghost use Prim.Native.Nat.{ℕ, _+_, _≤_, _<_};
-ghost use lib.ListN.{length, replicate};
+ghost use Prim.Native.Nat.{ℕ, _<_};
+ghost use lib.ListN.{length};
 ghost use Rattle.answers.specs.Answer.{written, judged};
-ghost use Rattle.signatures.specs.Rows.{zero-row};
 ghost use Rattle.verdict.specs.Judgement.{judgement, Filled};
 ghost use Rattle.groups.specs.Groups.{design-of, Opened};
 ghost use Rattle.listing.specs.Answer.{fits, flat-answer, list-answer, flat-left, list-left};
@@ -33,7 +31,7 @@ fn fits(rows: u16, units: u16, room: usize) -> bool
     (rows <= 4096) & (units <= 4096) & (8 * index(rows) <= room)
 }
 
-// The listing of a judged file's component, the table having the row of each component.
+// Of an accepted file, the table having the row of each component.
 fn list_opened(
     file: &[u8],
     table: &[u16; 320],
@@ -74,8 +72,8 @@ fn list_opened(
     refused(Fault::Room, 0)
 }
 
-// Of a file that has been judged, with its verdict and rows.
-fn list_judged(file: &[u8], o: Opening, asked: usize, out: &mut [u8]) -> Written
+// The unit starts of one component of a file that has been judged, eight bytes each: how many, or the first refusal.
+pub fn list_judged(file: &[u8], o: Opening, asked: usize, out: &mut [u8]) -> Written
     requires { ⌜ (length (o .rows) ≡ 320) × Filled (judged (o .verdict)) (now file) (o .rows) × ((lent : ℕ) × (judged (o .verdict) ≡ judgement (now file) lent)) ⌝ }
     ensures { λ r. ⌜ ((lent : ℕ) → judged (o .verdict) ≡ judgement (now (file .entry)) lent → (written r ≡ list-answer (now (file .entry)) lent asked (length (now (out .entry)))) × (now (out .exit) ≡ list-left (now (file .entry)) lent asked (now (out .entry)))) ⌝ }
 {
@@ -88,18 +86,4 @@ fn list_judged(file: &[u8], o: Opening, asked: usize, out: &mut [u8]) -> Written
         } => list_opened(file, &rows, components, records, asked, out),
         Verdict::Refused(r) => Written::Refused(r),
     }
-}
-
-// The unit starts of one component, eight bytes each: how many, or the first refusal. The table is zero after every call.
-pub fn list(file: &[u8], table: &mut [Signature], asked: usize, out: &mut [u8]) -> Written
-    ensures { λ r. ⌜ (written r ≡ list-answer (now (file .entry)) (length (now (table .entry))) asked (length (now (out .entry)))) × (now (out .exit) ≡ list-left (now (file .entry)) (length (now (table .entry))) asked (now (out .entry))) × (now (table .exit) ≡ replicate (length (now (table .entry))) zero-row) ⌝ }
-{
-    list_judged(file, verdict::opened(file, table), asked, out)
-}
-
-// For callers that lend no table.
-pub fn list_alone(file: &[u8], asked: usize, out: &mut [u8]) -> Written
-    ensures { λ r. ⌜ (written r ≡ list-answer (now (file .entry)) 64 asked (length (now (out .entry)))) × (now (out .exit) ≡ list-left (now (file .entry)) 64 asked (now (out .entry))) ⌝ }
-{
-    list_judged(file, verdict::open_alone(file), asked, out)
 }

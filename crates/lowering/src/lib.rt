@@ -1,17 +1,15 @@
-// A file is judged, and the control rows of one of its built components are written into lent bytes.
+// The control rows of one built component of a judged file, written into lent bytes.
 use answers::Fault;
 use answers::Refusal;
 use answers::Verdict;
 use answers::Written;
 use control::Built;
-use signatures::Signature;
 use verdict::Opening;
 ghost use mathlib.Core.Path.{_≡_};
 ghost use Prim.Native.Nat.{ℕ, _*_, _<_};
-ghost use lib.ListN.{length, replicate};
+ghost use lib.ListN.{length};
 ghost use Rattle.timetable.specs.Bytes.{rows-bytes};
 ghost use Rattle.answers.specs.Answer.{written, judged};
-ghost use Rattle.signatures.specs.Rows.{zero-row};
 ghost use Rattle.verdict.specs.Judgement.{judgement, Filled};
 ghost use Rattle.groups.specs.Groups.{design-of, Opened};
 ghost use Rattle.control.specs.Stands.{all-rows, Stands};
@@ -52,7 +50,7 @@ fn refused(fault: Fault, position: usize) -> Written
     Written::Refused(Refusal { fault, position })
 }
 
-// Of a file that has been judged.
+// Of an accepted file.
 fn lower_opened(
     file: &[u8],
     rows: &[u16],
@@ -76,8 +74,8 @@ fn lower_opened(
     refused(Fault::Absent, asked)
 }
 
-// Of a file that has been judged, with its verdict and rows.
-fn lower_judged(file: &[u8], o: Opening, asked: usize, out: &mut [u8]) -> Written
+// The control rows of one component of a file that has been judged, sixteen bytes each: how many, or the first refusal.
+pub fn lower_judged(file: &[u8], o: Opening, asked: usize, out: &mut [u8]) -> Written
     requires { ⌜ (length (o .rows) ≡ 320) × Filled (judged (o .verdict)) (now file) (o .rows) × ((lent : ℕ) × (judged (o .verdict) ≡ judgement (now file) lent)) ⌝ }
     ensures { λ r. ⌜ ((lent : ℕ) → judged (o .verdict) ≡ judgement (now (file .entry)) lent → (written r ≡ lower-answer (now (file .entry)) lent asked (length (now (out .entry)))) × (now (out .exit) ≡ lower-left (now (file .entry)) lent asked (now (out .entry)))) ⌝ }
 {
@@ -90,18 +88,4 @@ fn lower_judged(file: &[u8], o: Opening, asked: usize, out: &mut [u8]) -> Writte
         } => lower_opened(file, &rows, components, records, asked, out),
         Verdict::Refused(r) => Written::Refused(r),
     }
-}
-
-// The control rows of one component, sixteen bytes each: how many, or the first refusal. The table is zero after every call.
-pub fn lower(file: &[u8], table: &mut [Signature], asked: usize, out: &mut [u8]) -> Written
-    ensures { λ r. ⌜ (written r ≡ lower-answer (now (file .entry)) (length (now (table .entry))) asked (length (now (out .entry)))) × (now (out .exit) ≡ lower-left (now (file .entry)) (length (now (table .entry))) asked (now (out .entry))) × (now (table .exit) ≡ replicate (length (now (table .entry))) zero-row) ⌝ }
-{
-    lower_judged(file, verdict::opened(file, table), asked, out)
-}
-
-// For callers that lend no table.
-pub fn lower_alone(file: &[u8], asked: usize, out: &mut [u8]) -> Written
-    ensures { λ r. ⌜ (written r ≡ lower-answer (now (file .entry)) 64 asked (length (now (out .entry)))) × (now (out .exit) ≡ lower-left (now (file .entry)) 64 asked (now (out .entry))) ⌝ }
-{
-    lower_judged(file, verdict::open_alone(file), asked, out)
 }

@@ -1,12 +1,23 @@
-// What `lower` and `list` print for a whole file.
+// What `lower` and `list` print for a whole file, which is judged once.
 use answers::Verdict;
 use answers::Written;
+use verdict::Opening;
+ghost use Rattle.printed.specs.Opens.{Opens};
 
-// A component has at most 1,105 rows: one of its own, 64 invocations of 16 inputs each, 16 outputs. A leaf prints nothing.
-fn component(fd: i32, out: &mut [u8; 4096], at: usize, file: &[u8], c: usize) -> usize {
-    let mut rows = [0u8; 17680];
-    match lowering::lower_alone(file, c, &mut rows) {
-        Written::Done(k) => lines::lowered_rows(fd, out, at, file, c, &rows, k),
+// A leaf prints nothing.
+fn component(
+    fd: i32,
+    out: &mut [u8; 4096],
+    at: usize,
+    file: &[u8],
+    o: Opening,
+    c: usize,
+    rows: &mut [u8; 17680],
+) -> usize
+    requires { ⌜ Opens (now file) o ⌝ }
+{
+    match lowering::lower_judged(file, o, c, rows) {
+        Written::Done(k) => lines::lowered_rows(fd, out, at, file, c, rows, k),
         Written::Refused(_) => at,
     }
 }
@@ -18,30 +29,37 @@ fn end(fd: i32, out: &mut [u8; 4096], at: usize) {
     pieces::rest(fd, out, behind);
 }
 
-fn components(fd: i32, file: &[u8], count: usize) {
+// A component has at most 1,105 rows: one of its own, 64 invocations of 16 inputs each, 16 outputs.
+fn components(fd: i32, file: &[u8], o: Opening, count: usize)
+    requires { ⌜ Opens (now file) o ⌝ }
+{
+    let mut rows = [0u8; 17680];
     let mut out = [0u8; 4096];
     let mut at = 0;
     for c in 0..count {
-        at = component(fd, &mut out, at, file, c);
+        at = component(fd, &mut out, at, file, o, c, &mut rows);
     }
     end(fd, &mut out, at);
 }
 
 // The control rows of every built component, or the refusal.
 pub fn lowered(fd: i32, file: &[u8]) {
-    match verdict::judge_alone(file) {
+    let o = verdict::open_alone(file);
+    let verdict = o.verdict;
+    match verdict {
         Verdict::Accepted {
             components: count,
             records: _,
-        } => components(fd, file, count),
+        } => components(fd, file, o, count),
         Verdict::Refused(r) => report::refusal(fd, r),
     }
 }
 
-// The unit starts of component c, or the refusal.
-pub fn listed(fd: i32, file: &[u8], c: usize) {
+fn starts(fd: i32, file: &[u8], o: Opening, c: usize)
+    requires { ⌜ Opens (now file) o ⌝ }
+{
     let mut rows = [0u8; 32768];
-    match listing::list_alone(file, c, &mut rows) {
+    match listing::list_judged(file, o, c, &mut rows) {
         Written::Done(k) => {
             let mut out = [0u8; 4096];
             let at = lines::started_rows(fd, &mut out, 0, &rows, k);
@@ -51,16 +69,23 @@ pub fn listed(fd: i32, file: &[u8], c: usize) {
     }
 }
 
+// The unit starts of component c, or the refusal.
+pub fn listed(fd: i32, file: &[u8], c: usize) {
+    starts(fd, file, verdict::open_alone(file), c);
+}
+
 // The unit starts of the last component, or the refusal.
 pub fn last_listed(fd: i32, file: &[u8]) {
-    match verdict::judge_alone(file) {
+    let o = verdict::open_alone(file);
+    let verdict = o.verdict;
+    match verdict {
         Verdict::Accepted {
             components: count,
             records: _,
         } => {
             // There is one at least.
             if 0 < count {
-                listed(fd, file, count - 1);
+                starts(fd, file, o, count - 1);
             }
         }
         Verdict::Refused(r) => report::refusal(fd, r),

@@ -3,6 +3,8 @@
 use answers::Verdict;
 use answers::Written;
 use libc::STDOUT_FILENO;
+use verdict::Opening;
+ghost use Rattle.printed.specs.Opens.{Opens};
 
 enum Printed {
     Rows,
@@ -11,9 +13,11 @@ enum Printed {
     Count,
 }
 
-fn starts_of(file: &[u8], c: usize) {
+fn starts_of(file: &[u8], o: Opening, c: usize)
+    requires { ⌜ Opens (now file) o ⌝ }
+{
     let mut rows = [0u8; 32768];
-    match listing::list_alone(file, c, &mut rows) {
+    match listing::list_judged(file, o, c, &mut rows) {
         Written::Done(k) => {
             io::write_all(STDOUT_FILENO, b"starts ");
             io::print_decimal(STDOUT_FILENO, k as u64);
@@ -25,13 +29,15 @@ fn starts_of(file: &[u8], c: usize) {
 
 // How many starts the last component has.
 fn count(file: &[u8]) {
-    match verdict::judge_alone(file) {
+    let o = verdict::open_alone(file);
+    let verdict = o.verdict;
+    match verdict {
         Verdict::Accepted {
             components,
             records: _,
         } => {
             if 0 < components {
-                starts_of(file, components - 1);
+                starts_of(file, o, components - 1);
             }
         }
         Verdict::Refused(r) => report::refusal(STDOUT_FILENO, r),

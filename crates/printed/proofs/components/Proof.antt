@@ -6,10 +6,10 @@ use Rattle.printed.proofs.components.Statement.{statement}
 use Rattle.printed.proofs.components.Tie as tie
 
 abbrev Inv-loop : tie.InvT-loop
-Inv-loop fd file count out₀ at₀ c₀ out at c = c ≤ count
+Inv-loop fd file o count rows₀ out₀ at₀ c₀ rows out at c = c ≤ count
 
 abbrev μ-loop : tie.MeasureT-loop
-μ-loop fd file count out₀ at₀ c₀ out at c = count - c
+μ-loop fd file o count rows₀ out₀ at₀ c₀ rows out at c = count - c
 
 loop-holds : tie.Need-loop-holds Inv-loop μ-loop
 loop-holds c = search needs
