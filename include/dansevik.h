@@ -76,7 +76,7 @@ struct dansevik_signature {
 };
 
 /* The values of `refusal`, and what `position` then is. The first that is found is answered: 13 for the table, then 1, then the
-   blocks in order with 2 before 3, then the records in order with the lowest number first, then 14, then any other 13. */
+   blocks in order with 2 before 3, then the records in order, for each in the order of this table, then 14, then any other 13. */
 enum dansevik_refusal {
     DANSEVIK_ACCEPTED = 0,
     /* The length of the file or of the record list is not allowed. 0. */
@@ -127,7 +127,7 @@ struct dansevik_answer {
 
 /* ---- Calls ---- */
 
-/* Judges a file. Accepted: `components` and `count`, its records. Refusals: 13 for the table, 1 to 12. */
+/* Judges a file. Accepted: `components` and `count`, its records. Refusals: 13 for the table, those of the file. */
 struct dansevik_answer dansevik_judge(const uint8_t *file, size_t file_bytes, struct dansevik_signature *table, size_t table_rows);
 
 /* Judges a file, then writes the control rows of its built component `component` into `out`. Accepted: `count` rows of 16 bytes,

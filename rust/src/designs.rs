@@ -11,7 +11,7 @@ mod looped;
 mod rich;
 mod squaring;
 
-pub use aimed::aimed;
+pub use aimed::{aimed, targets};
 pub use chance::Chance;
 pub use damage::{damaged, damaged_blocks};
 pub use draft::{Draft, Drawing};

@@ -62,7 +62,7 @@ pub fn judge(file: &[u8]) -> Result<(usize, usize), Refused> {
     Ok((design.len(), list.len()))
 }
 
-/// The design that a record list says: refusals 4 to 12.
+/// The design that a record list says, or the first refusal of a record.
 pub fn design(list: &[Vec<u8>]) -> Result<Vec<Component>, Refused> {
     let mut entered: Vec<Component> = Vec::new();
     for (number, bytes) in list.iter().enumerate() {
@@ -73,7 +73,7 @@ pub fn design(list: &[Vec<u8>]) -> Result<Vec<Component>, Refused> {
         };
         for (fault, holds) in rules::RULES {
             if !holds(&entered, &record) {
-                return refused(fault);
+                return refused(*fault);
             }
         }
         enter(&mut entered, record);

@@ -1,20 +1,20 @@
 //! That an aimed fault most often gives the refusal that it is aimed at, and that designs of any shape are lawful.
 
-use dansevik::designs::{aimed, drawn, shaped, Chance, Shape};
+use dansevik::designs::{aimed, drawn, shaped, targets, Chance, Shape};
 use dansevik::naive;
 
 #[test]
 fn an_aimed_fault_gives_its_refusal() {
-    for number in 1..=12 {
+    for target in targets() {
         let hit = (0..400).filter(|seed| {
             let mut chance = Chance::new(*seed);
             let drawing = drawn(&mut chance, 8);
-            let answer = naive::judge(&aimed(&mut chance, number, drawing));
-            answer.map_or_else(|(found, _)| found, |_| 0) == number as u64
+            let answer = naive::judge(&aimed(&mut chance, target, drawing));
+            answer.map_or_else(|(found, _)| found, |_| 0) == target as u64
         });
         let often = hit.count();
-        println!("{number}: {often} of 400");
-        assert!(often > 100, "{number}: {often} of 400");
+        println!("{target:?}: {often} of 400");
+        assert!(often > 100, "{target:?}: {often} of 400");
     }
 }
 

@@ -106,7 +106,7 @@ fn refusals_come_in_order_and_write_nothing() {
         let answer = lower(file, &mut table, component, &mut out);
         assert!(table.iter().all(|row| *row == Signature::default()));
         assert!(answer.is_ok() || out.iter().all(|b| *b == 5));
-        answer.map_err(|refusal| (refusal.fault as u32, refusal.position))
+        answer.map_err(|refusal| (refusal.fault as u64, refusal.position))
     };
     assert_eq!(answer(&file, 64, 1, 128), Ok(8));
     assert_eq!(answer(&file, 70, 1, 129), Ok(8));

@@ -2,13 +2,14 @@
 //! records that are there, that are not, and leaves.
 
 use super::pair::{self, Answered, Lent, AMPLE};
+use super::tally::Tally;
 use dansevik::designs::Chance;
 
 pub struct Outcome {
     /// The verdict with a table of 64 rows: 0 accepted, otherwise the refusal.
     pub verdict: u64,
-    /// How many calls answered 0 (accepted) and each refusal.
-    pub answers: [u64; 15],
+    /// What the calls answered.
+    pub answers: Tally,
 }
 
 /// What a call that could not be compared was.
@@ -20,14 +21,14 @@ pub struct Difference {
 struct Run<'a> {
     file: &'a [u8],
     lent: &'a mut Lent,
-    answers: [u64; 15],
+    answers: Tally,
 }
 
 impl Run<'_> {
     /// Counts an answer, or says which call differed.
     fn took(&mut self, call: impl FnOnce() -> String, answer: Result<Answered, String>) -> Result<Answered, Difference> {
         let answer = answer.map_err(|how| Difference { call: call(), how })?;
-        self.answers[answer.number() as usize] += 1;
+        self.answers.count(answer.number());
         Ok(answer)
     }
 
@@ -100,7 +101,7 @@ impl Run<'_> {
 
 /// Every call on a file; the components and records asked for are drawn by chance beside those at the ends.
 pub fn every_call(file: &[u8], chance: &mut Chance, lent: &mut Lent) -> Result<Outcome, Difference> {
-    let mut run = Run { file, lent, answers: [0; 15] };
+    let mut run = Run { file, lent, answers: Tally::default() };
     let verdict = run.judge(64)?;
     run.judge(63)?;
     run.judge(70)?;

@@ -1,6 +1,6 @@
 //! The files that are compared, each given by its seed alone.
 
-use dansevik::designs::{self, aimed, damaged, damaged_blocks, drawn, seal, shaped, Chance, Drawing, List, Shape};
+use dansevik::designs::{self, aimed, damaged, damaged_blocks, drawn, seal, shaped, targets, Chance, Drawing, List, Shape};
 
 /// What a file was drawn as. Most of those that are no lawful design are refused, by far not all.
 #[derive(Clone, Copy, Debug, PartialEq, Eq)]
@@ -22,9 +22,9 @@ pub fn file(seed: u64) -> (Sort, Vec<u8>) {
     match chance.below(100) {
         0..=29 => (Sort::Lawful, lawful(chance).list().file()),
         30..=74 => {
-            let number = 1 + chance.below(12);
+            let target = chance.pick(&targets());
             let drawing = lawful(chance);
-            (Sort::Aimed, aimed(chance, number, drawing))
+            (Sort::Aimed, aimed(chance, target, drawing))
         }
         75..=86 => (Sort::Damaged, often_damaged(chance).file()),
         87..=92 => {

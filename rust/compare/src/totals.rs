@@ -2,15 +2,16 @@
 
 use super::every_call::Outcome;
 use super::files::{Sort, SORTS};
-use std::fmt;
+use super::tally::{refusals, Tally};
+use std::{fmt, iter};
 
 #[derive(Clone, Debug, Default, PartialEq, Eq)]
 pub struct Totals {
     pub files: u64,
     pub different: u64,
     sorts: [u64; 6],
-    verdicts: [u64; 15],
-    answers: [u64; 15],
+    verdicts: Tally,
+    answers: Tally,
 }
 
 impl Totals {
@@ -19,28 +20,27 @@ impl Totals {
     }
 
     pub fn add(&mut self, outcome: &Outcome) {
-        self.verdicts[outcome.verdict.min(14) as usize] += 1;
-        for (all, new) in self.answers.iter_mut().zip(outcome.answers) {
-            *all += new;
-        }
+        self.verdicts.count(outcome.verdict);
+        self.answers.join(&outcome.answers);
     }
 
     pub fn join(&mut self, other: &Totals) {
         self.files += other.files;
         self.different += other.different;
-        let own = self.sorts.iter_mut().chain(&mut self.verdicts).chain(&mut self.answers);
-        for (all, new) in own.zip(other.sorts.iter().chain(&other.verdicts).chain(&other.answers)) {
+        for (all, new) in self.sorts.iter_mut().zip(&other.sorts) {
             *all += new;
         }
+        self.verdicts.join(&other.verdicts);
+        self.answers.join(&other.answers);
     }
 
     pub fn calls(&self) -> u64 {
-        self.answers.iter().sum()
+        self.answers.all()
     }
 
     /// The refusals that no call gave.
-    pub fn never(&self) -> Vec<usize> {
-        (1..15).filter(|number| self.answers[*number] == 0).collect()
+    pub fn never(&self) -> Vec<u64> {
+        refusals().filter(|number| self.answers.of(*number) == 0).collect()
     }
 }
 
@@ -51,9 +51,9 @@ impl fmt::Display for Totals {
             write!(f, " {sort:?} {many}")?;
         }
         writeln!(f, "\n{:>8} {:>10} {:>10}", "answer", "verdicts", "calls")?;
-        for number in 0..15 {
+        for number in iter::once(0).chain(refusals()) {
             let name = if number == 0 { "accepted".to_string() } else { number.to_string() };
-            writeln!(f, "{name:>8} {:>10} {:>10}", self.verdicts[number], self.answers[number])?;
+            writeln!(f, "{name:>8} {:>10} {:>10}", self.verdicts.of(number), self.answers.of(number))?;
         }
         write!(f, "{} files and {} calls compared, {} different", self.files, self.calls(), self.different)
     }

@@ -3,60 +3,60 @@
 use std::error::Error;
 use std::fmt;
 
-/// The refusals, in the order of their numbers: `fault as u64` is the number.
-#[derive(Clone, Copy, Debug, PartialEq, Eq, Hash)]
-pub enum Fault {
-    Length = 1,
-    Check,
-    Header,
-    Record,
-    Place,
-    TooMany,
-    Reference,
-    Width,
-    Interval,
-    Spacing,
-    Span,
-    Reading,
-    Room,
-    Absent,
+/// Makes the refusals of the table below: what is said of one stands there alone.
+macro_rules! refusals {
+    ($($name:ident = $number:literal, $says:literal;)*) => {
+        /// The refusals, in the order of the table in docs/RULES.md: `fault as u64` is the number.
+        #[derive(Clone, Copy, Debug, PartialEq, Eq, Hash)]
+        pub enum Fault {
+            $(#[doc = $says] $name = $number,)*
+        }
+
+        impl Fault {
+            /// Every refusal, in that order.
+            pub const ALL: &'static [Fault] = &[$(Fault::$name,)*];
+
+            fn says(self) -> &'static str {
+                match self {
+                    $(Fault::$name => $says,)*
+                }
+            }
+        }
+    };
 }
 
-const FAULTS: [(Fault, &str); 14] = [
-    (Fault::Length, "length not allowed"),
-    (Fault::Check, "check differs"),
-    (Fault::Header, "header, unused slot or spare bytes differ"),
-    (Fault::Record, "kind, range or zero byte wrong in a record"),
-    (Fault::Place, "record not allowed at this place, or file ends in an incomplete component"),
-    (Fault::TooMany, "one of a kind too many"),
-    (
-        Fault::Reference,
-        "reference: instance's component not below its own; instance, own input, output or invocation absent; or argument \
-         naming its own or a later invocation",
-    ),
-    (Fault::Width, "width rule: source and reader not equally wide, or the constant too great"),
-    (Fault::Interval, "interval longer than the component's delay"),
-    (Fault::Spacing, "spacing, against earlier invocations"),
-    (Fault::Span, "span, over this and earlier invocations"),
-    (Fault::Reading, "reading: the source's interval does not contain the required one"),
-    (Fault::Room, "lent buffer too short, or a flat limit passed"),
-    (Fault::Absent, "component or record asked for is absent, or the component is a leaf when lowering"),
-];
+refusals! {
+    Length = 1, "length not allowed";
+    Check = 2, "check differs";
+    Header = 3, "header, unused slot or spare bytes differ";
+    Record = 4, "kind, range or zero byte wrong in a record";
+    Place = 5, "record not allowed at this place, or file ends in an incomplete component";
+    TooMany = 6, "one of a kind too many";
+    Reference = 7, "reference: instance's component not below its own; instance, own input, output or invocation absent; or argument \
+                    naming its own or a later invocation";
+    Width = 8, "width rule: source and reader not equally wide, or the constant too great";
+    Interval = 9, "interval longer than the component's delay";
+    Spacing = 10, "spacing, against earlier invocations";
+    Span = 11, "span, over this and earlier invocations";
+    Reading = 12, "reading: the source's interval does not contain the required one";
+    Room = 13, "lent buffer too short, or a flat limit passed";
+    Absent = 14, "component or record asked for is absent, or the component is a leaf when lowering";
+}
 
 impl Fault {
-    /// The refusal with a number, 1 to 14.
+    /// The refusal with a number.
     pub fn numbered(number: u64) -> Option<Fault> {
-        FAULTS.iter().map(|(fault, _)| *fault).find(|fault| *fault as u64 == number)
+        Fault::ALL.iter().copied().find(|fault| *fault as u64 == number)
     }
 }
 
 impl fmt::Display for Fault {
     fn fmt(&self, f: &mut fmt::Formatter) -> fmt::Result {
-        f.write_str(FAULTS[*self as usize - 1].1)
+        f.write_str(self.says())
     }
 }
 
-/// A refusal and where it stands: a block (2, 3), a record (4 to 12), the number asked for (14), or 0.
+/// A refusal and where it stands: a block, a record, the number asked for, or 0.
 #[derive(Clone, Copy, Debug, PartialEq, Eq, Hash)]
 pub struct Refusal {
     pub fault: Fault,

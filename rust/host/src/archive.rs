@@ -20,7 +20,7 @@ impl Answer {
         if self.refusal == 0 {
             return Ok(self);
         }
-        let fault = Fault::numbered(self.refusal).expect("the archive answers one of the fourteen refusals");
+        let fault = Fault::numbered(self.refusal).expect("the archive answers a refusal of the table");
         Err(Refusal { fault, position: self.position })
     }
 }

@@ -17,10 +17,9 @@ pub struct Signature {
     pub first: u16,
 }
 
-/// Judges a file. Refusals 13 for the table, then 1 to 12.
+/// Judges a file. Refusals 13 for the table, then those of the file.
 pub fn judge(file: &[u8], table: &mut [Signature]) -> Result<Accepted, Refusal> {
-    let answer =
-        unsafe { archive::dansevik_judge(file.as_ptr(), file.len(), table.as_mut_ptr(), table.len()) }.accepted()?;
+    let answer = unsafe { archive::dansevik_judge(file.as_ptr(), file.len(), table.as_mut_ptr(), table.len()) }.accepted()?;
     Ok(Accepted { components: answer.components as usize, records: answer.count as usize })
 }
 

@@ -52,7 +52,7 @@ impl Default for Table {
     }
 }
 
-/// Judges a file. Refusals 1 to 12.
+/// Judges a file. Refusals: those of the file.
 pub fn judge(file: &[u8], table: &mut Table) -> Result<Accepted, Refusal> {
     lent::judge(file, &mut table.rows)
 }

@@ -76,8 +76,22 @@ fn a_short_table_is_refused_and_every_table_is_zero_afterwards() {
 fn a_refusal_says_its_number_its_position_and_its_rule() {
     let refusal = Refusal { fault: Fault::Span, position: 12 };
     assert_eq!(refusal.to_string(), "refused 11 at 12: span, over this and earlier invocations");
-    for number in 1..=14 {
-        assert_eq!(Fault::numbered(number).map(|fault| fault as u64), Some(number));
+}
+
+#[test]
+fn a_number_names_its_refusal_and_no_other() {
+    for fault in Fault::ALL {
+        assert_eq!(Fault::numbered(*fault as u64), Some(*fault));
     }
-    assert_eq!((Fault::numbered(0), Fault::numbered(15)), (None, None));
+    assert_eq!((Fault::numbered(0), Fault::numbered(u64::MAX)), (None, None));
+}
+
+#[test]
+fn the_header_has_the_same_names_and_numbers() {
+    let header = include_str!("../../../include/dansevik.h");
+    let refusals = header.lines().filter_map(|line| line.trim().strip_prefix("DANSEVIK_REFUSED_")?.split_once(" = "));
+    let found: Vec<_> =
+        refusals.map(|(name, number)| (name.replace('_', ""), number.trim_end_matches(',').to_string())).collect();
+    let own: Vec<_> = Fault::ALL.iter().map(|fault| (format!("{fault:?}").to_uppercase(), (*fault as u64).to_string())).collect();
+    assert_eq!(found, own);
 }

@@ -3,30 +3,39 @@
 use super::chance::Chance;
 use super::draft::{Draft, Drawing};
 use super::list::{seal, List};
-use crate::plain::{Port, Source, RECORDS};
+use crate::plain::{Fault, Port, Source, RECORDS};
 
-/// The file of a design with a fault that most often gives the refusal with this number, 1 to 12; lawful still where the
-/// design has nothing that the fault could be made in.
-pub fn aimed(chance: &mut Chance, number: usize, mut drawing: Drawing) -> Vec<u8> {
-    match number {
-        1 => return length(chance, drawing.list().file()),
-        2 => return check(chance, drawing.list().file()),
-        3 => return header(chance, drawing.list().file()),
-        4 => return record(chance, drawing.list()).file(),
-        5 => return place(chance, drawing.list()).file(),
-        6 => return too_many(chance, drawing.list()).file(),
+/// The refusals that a file can be aimed at.
+pub fn targets() -> Vec<Fault> {
+    Fault::ALL.iter().copied().filter(|fault| fault.in_a_file()).collect()
+}
+
+/// The file of a design with a fault that most often gives this refusal; lawful still where the design has nothing that the
+/// fault could be made in.
+pub fn aimed(chance: &mut Chance, target: Fault, mut drawing: Drawing) -> Vec<u8> {
+    match target {
+        Fault::Length => return length(chance, drawing.list().file()),
+        Fault::Check => return check(chance, drawing.list().file()),
+        Fault::Header => return header(chance, drawing.list().file()),
+        Fault::Record => return record(chance, drawing.list()).file(),
+        Fault::Place => return place(chance, drawing.list()).file(),
+        Fault::TooMany => return too_many(chance, drawing.list()).file(),
         _ => (),
     }
     // the built components are the ones that have anything but ports
     let several: Vec<usize> = (0..drawing.components.len()).filter(|c| !drawing.components[*c].calls.is_empty()).collect();
-    let own = if several.is_empty() || number == 9 { chance.below(drawing.components.len()) } else { chance.pick(&several) };
+    let own = if several.is_empty() || target == Fault::Interval {
+        chance.below(drawing.components.len())
+    } else {
+        chance.pick(&several)
+    };
     let mut draft = drawing.components[own].clone();
-    match number {
-        7 => reference(chance, &mut draft, own),
-        8 => width(chance, &mut draft),
-        9 => interval(chance, &mut draft),
-        10 => spacing(chance, &drawing, &mut draft),
-        11 => span(chance, &drawing, &mut draft),
+    match target {
+        Fault::Reference => reference(chance, &mut draft, own),
+        Fault::Width => width(chance, &mut draft),
+        Fault::Interval => interval(chance, &mut draft),
+        Fault::Spacing => spacing(chance, &drawing, &mut draft),
+        Fault::Span => span(chance, &drawing, &mut draft),
         _ => reading(chance, &mut draft),
     }
     let more = draft.records() - drawing.components[own].records();

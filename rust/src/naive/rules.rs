@@ -1,13 +1,13 @@
-//! What document 01 asks of a record after those before it: refusals 5 to 12, a function each.
+//! What document 01 asks of a record after those before it: a function for each refusal but 4, that of the record by itself.
 
 use super::{Call, Component, Port, Record, Source};
 
 /// Whether a record keeps a rule after the components entered before it, the last one as far as it is said.
 pub(super) type Rule = fn(&[Component], &Record) -> bool;
 
-/// The rules by their numbers, lowest first.
-pub(super) const RULES: [(u64, Rule); 8] =
-    [(5, in_place), (6, not_too_many), (7, there), (8, equally_wide), (9, short), (10, spaced), (11, spanned), (12, ready)];
+/// The rules by their numbers, in the order of the table.
+pub(super) const RULES: &[(u64, Rule)] =
+    &[(5, in_place), (6, not_too_many), (7, there), (8, equally_wide), (9, short), (10, spaced), (11, spanned), (12, ready)];
 
 /// The component that a call of the last component invokes.
 fn invoked<'a>(entered: &'a [Component], call: &Call) -> &'a Component {

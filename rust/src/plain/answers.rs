@@ -2,37 +2,58 @@
 
 use std::fmt;
 
-/// The refusals, in the order of document 01's table; `fault as u32` is its number.
-#[derive(Clone, Copy, Debug, PartialEq, Eq)]
-pub enum Fault {
+/// Makes the refusals of the table below, which alone names and numbers them.
+macro_rules! refusals {
+    ($($(#[$says:meta])* $name:ident = $number:literal,)*) => {
+        /// The refusals, in the order of document 01's table: `fault as u64` is the number.
+        #[derive(Clone, Copy, Debug, PartialEq, Eq)]
+        pub enum Fault {
+            $($(#[$says])* $name = $number,)*
+        }
+
+        impl Fault {
+            /// Every refusal, in that order.
+            pub const ALL: &'static [Fault] = &[$(Fault::$name,)*];
+        }
+    };
+}
+
+refusals! {
     /// A length that is not allowed.
     Length = 1,
     /// A block's check differs.
-    Check,
+    Check = 2,
     /// A block's header, an unused slot or spare bytes differ.
-    Header,
+    Header = 3,
     /// Kind, range or zero byte wrong in a record.
-    Record,
+    Record = 4,
     /// A record not allowed at its place, or a file that ends in an incomplete component.
-    Place,
+    Place = 5,
     /// One of a kind too many.
-    TooMany,
+    TooMany = 6,
     /// What a record names is absent.
-    Reference,
+    Reference = 7,
     /// Source and reader not equally wide.
-    Width,
+    Width = 8,
     /// A port's interval longer than its component's delay.
-    Interval,
+    Interval = 9,
     /// Two invocations of one instance too close.
-    Spacing,
+    Spacing = 10,
     /// The invocations of one instance spread too far.
-    Span,
+    Span = 11,
     /// A source not available as long as it is required.
-    Reading,
+    Reading = 12,
     /// A lent buffer too short, or a flat limit passed.
-    Room,
+    Room = 13,
     /// The component or record asked for is absent.
-    Absent,
+    Absent = 14,
+}
+
+impl Fault {
+    /// Whether it is one of a file, and not of what is lent or asked for.
+    pub fn in_a_file(self) -> bool {
+        !matches!(self, Fault::Room | Fault::Absent)
+    }
 }
 
 /// A refusal and where it stands: a block, a record, an asked number, or 0.
@@ -55,7 +76,7 @@ impl Refusal {
 
 impl fmt::Display for Refusal {
     fn fmt(&self, f: &mut fmt::Formatter) -> fmt::Result {
-        write!(f, "refused {} at {}", self.fault as u32, self.position)
+        write!(f, "refused {} at {}", self.fault as u64, self.position)
     }
 }
 

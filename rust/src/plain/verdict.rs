@@ -9,7 +9,7 @@ use super::current::{Current, Instance, INSTANCES};
 use super::records::Slot;
 use super::table::{Signature, ROWS};
 
-/// Judges a file; the table is zero afterwards. Refusals 13 for the table, then 1 to 12.
+/// Judges a file; the table is zero afterwards. Refusals 13 for the table, then those of the file.
 pub fn judge(file: &[u8], table: &mut [Signature]) -> Result<Accepted, Refusal> {
     judge_then(file, table, |_, accepted| Ok(accepted))
 }
