@@ -7,17 +7,9 @@ root=$(cd "$(dirname "$0")/.." && pwd -P)
 room=$(mktemp -d)
 trap 'rm -rf "$room"' EXIT
 
-# run NAME WORDS..: the proved program, on standard input. Programs are for x86-64; elsewhere the kit's emulator runs them.
+# run NAME WORDS..: the proved program, on standard input
 run() {
-    program=$root/target/bin/$1
-    shift
-    if [ "$(uname -m)" = x86_64 ]; then
-        "$program" "$@"
-    else
-        kit=$(dirname "$(dirname "$(rt doc)")")
-        tools=$kit/on/$(uname -m)/toolchain
-        "$tools/bin/qemu-x86_64" "$tools/lib/ld-linux-x86-64.so.2" --library-path "$tools/lib" "$program" "$@"
-    fi
+    sh "$root/tools/program" "$@"
 }
 
 # one NAME: everything that belongs to that example, into $room

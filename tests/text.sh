@@ -13,35 +13,31 @@ fail() {
     failed=1
 }
 
-# Programs are for x86-64; elsewhere the kit's emulator runs them.
 for program in show assemble unpack; do
     [ -x "target/bin/$program" ] || rt check "$program" >"$room/log" 2>&1 || { cat "$room/log" >&2; exit 1; }
-    if [ "$(uname -m)" = x86_64 ]; then
-        ln -s "$PWD/target/bin/$program" "$room/$program"
-    else
-        kit=$(dirname "$(dirname "$(rt doc)")")
-        tools=$kit/on/$(uname -m)/toolchain
-        printf '#!/bin/sh\nexec %s %s --library-path %s %s "$@"\n' "$tools/bin/qemu-x86_64" "$tools/lib/ld-linux-x86-64.so.2" "$tools/lib" "$PWD/target/bin/$program" >"$room/$program"
-        chmod +x "$room/$program"
-    fi
 done
+
+# run NAME WORDS..: the proved program, on standard input
+run() {
+    sh tools/program "$@"
+}
 
 # back FILE: the file's record list comes back from its text; a file whose blocks do not pass gets unpack's line
 back() {
-    "$room/unpack" <"$1" >"$room/list" 2>"$room/refusal"
-    "$room/show" <"$1" >"$room/text" 2>"$room/err"
+    run unpack <"$1" >"$room/list" 2>"$room/refusal"
+    run show <"$1" >"$room/text" 2>"$room/err"
     [ -s "$room/err" ] && fail "$1: show wrote on standard error"
     if [ -s "$room/refusal" ]; then
         cmp -s "$room/text" "$room/refusal" || fail "$1: show did not say the refusal of its blocks"
         return
     fi
-    "$room/assemble" <"$room/text" >"$room/back" 2>"$room/err"
+    run assemble <"$room/text" >"$room/back" 2>"$room/err"
     cmp -s "$room/list" "$room/back" || fail "$1: not the same list: $(head -n 1 "$room/err")"
 }
 
 # says NAME LINE: assemble says just that line of what stands in $room/in, and writes nothing
 says() {
-    timeout 10 "$room/assemble" <"$room/in" >"$room/out" 2>"$room/err" || fail "$1: did not end well in ten seconds"
+    timeout 10 sh tools/program assemble <"$room/in" >"$room/out" 2>"$room/err" || fail "$1: did not end well in ten seconds"
     [ -s "$room/out" ] && fail "$1: wrote something"
     [ "$(cat "$room/err")" = "$2" ] || fail "$1: said '$(head -c 200 "$room/err")' and not '$2'"
 }
@@ -54,7 +50,7 @@ wrong() {
 
 # like NAME: assemble makes of $room/in the squaring example's list
 like() {
-    "$room/assemble" <"$room/in" >"$room/out" 2>"$room/err"
+    run assemble <"$room/in" >"$room/out" 2>"$room/err"
     cmp -s "$room/out" examples/squaring.records || fail "$1: not the squaring example: $(head -n 1 "$room/err")"
 }
 
@@ -78,7 +74,7 @@ like 'other blanks, other margins, carriage returns'
 grep -v '^#' examples/squaring.shown | head -c -1 >"$room/in"
 like 'no line end'
 printf 'raw 07 00 ff 0A 00 00 00 00 00 00 00 00 00 00 00 FF' >"$room/in"
-[ "$("$room/assemble" <"$room/in" | od -An -tx1 | tr -d ' \n')" = 0700ff0a0000000000000000000000ff ] || fail 'raw bytes'
+[ "$(run assemble <"$room/in" | od -An -tx1 | tr -d ' \n')" = 0700ff0a0000000000000000000000ff ] || fail 'raw bytes'
 
 wrong 'componet 0 leaf delay 2' 'component, input, output, instance, invocation, argument, connection or raw'
 wrong '12' 'component, input, output, instance, invocation, argument, connection or raw'
@@ -110,7 +106,7 @@ says 'a comment' 'line 4: expected a record'
 { grep -v '^#' examples/squaring.shown; echo 'argument 3 own 0'; } >"$room/in"
 says 'a number that is not the place'"'"'s' 'line 17: expected the number that follows from the place, 2'
 yes 'component leaf delay 1' | head -n 3968 >"$room/in"
-[ "$("$room/assemble" <"$room/in" | wc -c)" = 63488 ] || fail '3968 records: not a list of so many'
+[ "$(run assemble <"$room/in" | wc -c)" = 63488 ] || fail '3968 records: not a list of so many'
 yes 'component leaf delay 1' | head -n 3969 >"$room/in"
 says '3969 records' 'line 3969: expected at most 3968 records'
 head -c 30000000 /dev/zero | tr '\0' 'a' >"$room/in"
@@ -118,12 +114,12 @@ says 'one long line' 'line 1: expected a line of at most 4096 bytes'
 head -c 30000000 /dev/zero >"$room/in"
 says 'zeros' 'line 1: expected a line of at most 4096 bytes'
 head -c 100000 target/bin/show >"$room/in"
-"$room/assemble" <"$room/in" >"$room/out" 2>"$room/err"
+run assemble <"$room/in" >"$room/out" 2>"$room/err"
 [ "$(wc -l <"$room/err")" = 1 ] && [ ! -s "$room/out" ] || fail 'a program as text: not one line'
 head -c 70000000 /dev/zero | tr '\0' '\n' >"$room/in"
 says 'seventy million lines' 'line 67108865: expected a text of at most 67108864 bytes'
 
-lists=$(CARGO_TARGET_DIR=$PWD/target/rust cargo run --offline --release --quiet --manifest-path rust/Cargo.toml --bin texts -- -n 1000 "$room/show" "$room/assemble") || failed=1
+lists=$(CARGO_TARGET_DIR=$PWD/target/rust cargo run --offline --release --quiet --manifest-path rust/Cargo.toml --bin texts -- -n 1000 sh tools/program) || failed=1
 echo "text: $lists"
 [ "$failed" = 0 ] && echo "text: $files files as text and back, and everything else as it should be"
 exit "$failed"

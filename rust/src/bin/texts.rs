@@ -1,11 +1,16 @@
 //! Whether `assemble` undoes `show`: for lists by chance, lawful, damaged, and with records that are none, the text that the one program
 //! writes of the packed list is read by the other as the same list, to the byte. It would catch a field that is lost or written twice, a
 //! number that follows from the place and is counted differently, and a picture that is no comment.
+//!
+//!     texts [-n LISTS] [-s SEED] COMMAND ARGUMENTS..
+//!
+//! The command, with the word `show` or `assemble` behind its arguments, is that program. The exit status is 0 where no list differs, 1
+//! where one does, 2 on misuse.
 
 use dansevik::designs::{damaged, drawn, hidden, rich, Chance, List};
 use std::io::{self, Write};
 use std::process::{exit, Command, Stdio};
-use std::{env, fs};
+use std::{env, fs, iter};
 
 /// Most differences that are written out.
 const SHOWN: usize = 5;
@@ -13,28 +18,31 @@ const SHOWN: usize = 5;
 struct Asked {
     lists: u64,
     seed: u64,
-    show: String,
-    assemble: String,
+    command: Vec<String>,
 }
 
 fn asked() -> Option<Asked> {
     let (mut lists, mut seed) = (1000, 1);
-    let mut programs = vec![];
     let mut words = env::args().skip(1);
     while let Some(word) = words.next() {
         match word.as_str() {
             "-n" => lists = words.next()?.parse().ok()?,
             "-s" => seed = words.next()?.parse().ok()?,
-            _ => programs.push(word),
+            _ => return Some(Asked { lists, seed, command: iter::once(word).chain(words).collect() }),
         }
     }
-    let [show, assemble]: [String; 2] = programs.try_into().ok()?;
-    Some(Asked { lists, seed, show, assemble })
+    None
 }
 
 /// What a program writes on standard output.
-fn written(program: &str, input: &[u8]) -> io::Result<Vec<u8>> {
-    let mut child = Command::new(program).stdin(Stdio::piped()).stdout(Stdio::piped()).stderr(Stdio::null()).spawn()?;
+fn written(command: &[String], program: &str, input: &[u8]) -> io::Result<Vec<u8>> {
+    let mut child = Command::new(&command[0])
+        .args(&command[1..])
+        .arg(program)
+        .stdin(Stdio::piped())
+        .stdout(Stdio::piped())
+        .stderr(Stdio::null())
+        .spawn()?;
     let mut stdin = child.stdin.take().expect("a pipe");
     let input = input.to_vec();
     let fed = std::thread::spawn(move || {
@@ -79,7 +87,7 @@ fn main() -> io::Result<()> {
     let asked = match asked() {
         Some(asked) => asked,
         None => {
-            eprintln!("usage: texts [-n LISTS] [-s SEED] SHOW ASSEMBLE");
+            eprintln!("usage: texts [-n LISTS] [-s SEED] COMMAND ARGUMENTS..");
             exit(2);
         }
     };
@@ -87,8 +95,8 @@ fn main() -> io::Result<()> {
     let mut different = 0;
     for n in 0..asked.lists {
         let list = by_chance(&mut Chance::new(asked.seed.wrapping_mul(1_000_003).wrapping_add(n)));
-        let text = written(&asked.show, &list.file())?;
-        let back = written(&asked.assemble, &text)?;
+        let text = written(&asked.command, "show", &list.file())?;
+        let back = written(&asked.command, "assemble", &text)?;
         records += list.records.len();
         if back == list.records.concat() {
             continue;
