@@ -4,6 +4,7 @@ set -u
 cd "$(dirname "$0")/.." || exit 1
 room=$(mktemp -d) || exit 1
 trap 'rm -rf "$room"' EXIT
+trap 'exit 1' HUP INT TERM
 failed=0
 
 # expect STATUS NAME COMMAND..: the command ends with that status; what it wrote is in $room/out and $room/err

@@ -5,6 +5,7 @@ set -u
 cd "$(dirname "$0")/.." || exit 1
 room=$(mktemp -d) || exit 1
 trap 'rm -rf "$room"' EXIT
+trap 'exit 1' HUP INT TERM
 mkdir -p "$room/tools" "$room/crates/one/src"
 cp tools/contracts "$room/tools/contracts"
 failed=0

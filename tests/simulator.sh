@@ -11,11 +11,5 @@
 set -eu
 cd "$(dirname "$0")/.."
 
-if ! command -v iverilog >/dev/null 2>&1 || ! command -v vvp >/dev/null 2>&1; then
-    apt-get -q update
-    DEBIAN_FRONTEND=noninteractive apt-get -q -y -o DPkg::Lock::Timeout=120 --no-install-recommends install iverilog
-fi
-CARGO_TARGET_DIR=$PWD/target/rust
-export CARGO_TARGET_DIR
-exec cargo run --offline --release --quiet --manifest-path rust/Cargo.toml --bin simulate -- \
-    -n 300 -p 40 -s "${SEED:-1}" examples/*.design ${1:+--} "$@"
+if ! command -v iverilog >/dev/null 2>&1 || ! command -v vvp >/dev/null 2>&1; then sh tools/x86 install iverilog; fi
+exec sh tools/cargo run --release --quiet --bin simulate -- -n 300 -p 40 -s "${SEED:-1}" examples/*.design ${1:+--} "$@"

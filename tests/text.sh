@@ -6,6 +6,7 @@ set -u
 cd "$(dirname "$0")/.." || exit 1
 room=$(mktemp -d) || exit 1
 trap 'rm -rf "$room"' EXIT
+trap 'exit 1' HUP INT TERM
 failed=0
 
 fail() {
@@ -119,7 +120,7 @@ run assemble <"$room/in" >"$room/out" 2>"$room/err"
 head -c 70000000 /dev/zero | tr '\0' '\n' >"$room/in"
 says 'seventy million lines' 'line 67108865: expected a text of at most 67108864 bytes'
 
-lists=$(CARGO_TARGET_DIR=$PWD/target/rust cargo run --offline --release --quiet --manifest-path rust/Cargo.toml --bin texts -- -n 1000 sh tools/program) || failed=1
+lists=$(sh tools/cargo run --release --quiet --bin texts -- -n 1000 sh tools/program) || failed=1
 echo "text: $lists"
 [ "$failed" = 0 ] && echo "text: $files files as text and back, and everything else as it should be"
 exit "$failed"
