@@ -1,4 +1,4 @@
--- What is proved of the flat listing, over the bytes of the file and of the rows. `list-answer file lent asked room` is what the contract of `listing::list` says of a file, a table of so many lent, the component asked for and so much room; `list-left` what it leaves in the lent bytes.
+-- What is proved of the flat listing, over the bytes of the file and of the rows. `list-answer file lent asked room` is what the contract of `listing::list_judged` says of a file, a table of so many lent, the component asked for and so much room; `list-left` what it leaves in the lent bytes.
 -- Assumes nothing.
 use Prim.Native.Nat.{ℕ, suc, _*_, _^_, _≤_, _<_}
 use mathlib.Core.Bool.{Bool, true, false, cond, _&&_}

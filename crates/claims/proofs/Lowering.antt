@@ -1,4 +1,4 @@
--- What is proved of lowering, over the bytes of the file and of the rows. `lowered file lent asked room` is what the contract of `lowering::lower` says of a file, a table of so many lent, the component asked for and so much room; `lower-left` what it leaves in the lent bytes.
+-- What is proved of lowering, over the bytes of the file and of the rows. `lowered file lent asked room` is what the contract of `lowering::lower_judged` says of a file, a table of so many lent, the component asked for and so much room; `lower-left` what it leaves in the lent bytes.
 -- Assumes nothing.
 use Prim.Native.Nat.{ℕ, _*_, _≤_, _<_}
 use mathlib.Core.Bool.{Bool, true, false, cond, _&&_}

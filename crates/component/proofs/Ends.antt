@@ -13,8 +13,9 @@ use Rattle.reading.specs.Reader as Reading
 use Rattle.reading.specs.Reader.{Row, tests}
 use Rattle.rules.specs.Lowest.{lowest}
 use Rattle.reader.specs.declared.Reader.{Reader}
-use Rattle.reader.specs.Rows.{row, none}
+use Rattle.reader.specs.Rows.{row, signature, none}
 use Rattle.reader.specs.State.{State, fresh, begin, viewed, own-row, opened, is-component}
+use Rattle.reader.proofs.Class.{row-back}
 use Rattle.component.specs.declared.Progress.{Progress}
 use Rattle.component.specs.declared.Ended.{Ended}
 use Rattle.component.specs.Run.{reads, rest, last, Onward}
@@ -49,7 +50,7 @@ module _ (file : List ℕ) (n : ℕ) (rows : ℕ → Row) (q : Progress) (e : En
           whole = λ z. absurd (let l = range .0 in omega arith);
         })
 
-    pub whole-read : m ≡ 0 → a ≡ n → (s : State) → rest file n (run rows q) (q .at) ≡ accepted c a → last file n (run rows q) (q .at) ≡ reads rows s → s .number ≡ e .place → c ≡ e .place + 1 → own-row s ≡ row (e .row)
+    pub whole-read : m ≡ 0 → a ≡ n → (s : State) → rest file n (run rows q) (q .at) ≡ accepted c a → last file n (run rows q) (q .at) ≡ reads rows s → s .number ≡ e .place → c ≡ e .place + 1 → e .row ≡ signature (own-row s)
         → Read file n (e .progress .goes) rows q e
     whole-read z all s answer leads number count own =
         let f : e .progress .refusal ≡ m = ap (λ (z : Progress). z .refusal) is in
@@ -58,12 +59,12 @@ module _ (file : List ℕ) (n : ℕ) (rows : ℕ → Row) (q : Progress) (e : En
           range = λ d. absurd (d (f ∙ z));
           refuses = λ d. absurd (d (f ∙ z));
           accepts = λ y. rw is answer;
-          whole = λ y. (ap (λ (z : Progress). z .at) is ∙ all, ap (λ (z : Progress). z .count) is ∙ count, record { final = s; leads = leads; number = number; row = own });
+          whole = λ y. (ap (λ (z : Progress). z .at) is ∙ all, ap (λ (z : Progress). z .count) is ∙ count, record { final = s; leads = leads; number = number; row = sym (ap row own ∙ row-back (own-row s)) });
         })
 
   -- The next component has begun, with record i.
   module _ (r : Reader) (i : ℕ) (k : Class) (d : ℕ) where
-    pub goes-read : fresh (e .progress .reader) ≡ begin k d i (q .count) → e .progress .at ≡ i + 1 → e .progress .count ≡ q .count + 1 → e .progress .goes ≡ true → row (e .row) ≡ own-row (fresh r) → q .at ≤ i → i < n → q .count < 64 → d < 65536
+    pub goes-read : fresh (e .progress .reader) ≡ begin k d i (q .count) → e .progress .at ≡ i + 1 → e .progress .count ≡ q .count + 1 → e .progress .goes ≡ true → e .row ≡ signature (own-row (fresh r)) → q .at ≤ i → i < n → q .count < 64 → d < 65536
         → Onward file n (run rows q) (q .at) (reads (with-row (q .count) rows (own-row (fresh r))) (begin k d i (q .count))) (i + 1) → Read file n (e .progress .goes) rows q e
     goes-read s a c g w from l room small onward =
         subst (λ (b : Bool). Read file n b rows q e) (sym g)
@@ -72,7 +73,7 @@ module _ (file : List ℕ) (n : ℕ) (rows : ℕ → Row) (q : Progress) (e : En
           within = (let y = a in omega arith);
           begins = subst (λ (at : ℕ). Begun at (e .progress .count) (fresh (e .progress .reader))) (sym (a ∙ add-one i)) (k, d, q .count, c, room, small, s);
           count = c;
-          onward = rw (a, w, after-some (i + 1) (with-row (q .count) rows (own-row (fresh r))) (fresh (e .progress .reader)) (omega arith), s) onward;
+          onward = rw (a, ap row w ∙ row-back (own-row (fresh r)), after-some (i + 1) (with-row (q .count) rows (own-row (fresh r))) (fresh (e .progress .reader)) (omega arith), s) onward;
         })
 
 -- The reader that a component record, number i, leaves.

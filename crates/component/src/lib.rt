@@ -7,14 +7,13 @@ ghost use mathlib.Core.Bool.{true, false, cond};
 ghost use mathlib.Core.List.{[]};
 ghost use Prim.Native.Nat.{ℕ, _+_, _-_, _*_, _/_, _≤_, _<_};
 ghost use lib.ListN.{length};
-ghost use lib.Dec.{leb};
 ghost use Rattle.reading.specs.Reader.{Row};
 ghost use Rattle.records.specs.Says.{says};
-ghost use Rattle.reader.specs.Rows.{row};
+ghost use Rattle.reader.specs.Rows.{signature, Exact};
 ghost use Rattle.reader.specs.State.{fresh, before, own-row, opened, Few};
 ghost use Rattle.component.specs.Ahead.{ahead};
 ghost use Rattle.component.specs.Component.{Begins, Holds-rows, Read};
-ghost use Rattle.component.specs.Wanted.{in-order, later, wanted, Sound};
+ghost use Rattle.component.specs.Wanted.{later, wanted, every-below, Sound};
 
 fn half(x: usize) -> u16
     requires { ⌜ x < 65536 ⌝ }
@@ -46,8 +45,8 @@ pub struct Ended {
     pub row: Signature,
 }
 
-// A component whose row is wanted, and the place that the row goes to. After it come all the other components, or those of the
-// instances from record `from` on, before `end`.
+// A component whose row is wanted, and the place that the row goes to. After it come every other component below `end`, or those
+// of the instances from record `from` on, before `end`.
 pub struct Wanted {
     pub every: bool,
     pub component: usize,
@@ -107,17 +106,17 @@ pub fn instances_ahead(file: &[u8], n: usize, at: usize) -> Wanted
     next_instance(file, n, at, 0)
 }
 
-// The rows of all components, of a table that has them.
-pub fn every_component(rows: usize) -> Wanted
-    ensures { λ w. ⌜ (w .every ≡ true) × (w .component ≡ 0) × (w .place ≡ 0) × (w .from ≡ 0) × (w .end ≡ 0) × (w .goes ≡ leb 64 rows) ⌝ }
+// The rows of so many components, from the first on.
+pub fn every_component(count: usize) -> Wanted
+    ensures { λ w. ⌜ w ≡ every-below count ⌝ }
 {
     Wanted {
         every: true,
         component: 0,
         place: 0,
         from: 0,
-        end: 0,
-        goes: 64 <= rows,
+        end: count,
+        goes: 0 < count,
     }
 }
 
@@ -127,10 +126,11 @@ pub fn next_wanted(file: &[u8], w: Wanted) -> Wanted
     ensures { λ r. ⌜ Sound (now (file .entry)) r × (wanted (now (file .entry)) r ≡ later (now (file .entry)) w) × (r .goes ≡ true → r .place ≡ w .place + 1) ⌝ }
 {
     if w.every {
-        if w.component < 63 {
+        let next = w.component + 1;
+        if next < w.end {
             return Wanted {
                 every: true,
-                component: w.component + 1,
+                component: next,
                 place: w.place + 1,
                 from: w.from,
                 end: w.end,
@@ -145,7 +145,7 @@ pub fn next_wanted(file: &[u8], w: Wanted) -> Wanted
 // The reading stops at this position.
 fn stopped(r: Reader, count: usize, at: usize, refusal: u8) -> Ended
     requires { ⌜ Few r ⌝ }
-    ensures { λ e. ⌜ (e .progress ≡ record { reader = r; at = at; count = count; refusal = refusal; goes = false }) × (e .place ≡ r .number) × (row (e .row) ≡ own-row (fresh r)) ⌝ }
+    ensures { λ e. ⌜ (e .progress ≡ record { reader = r; at = at; count = count; refusal = refusal; goes = false }) × (e .place ≡ r .number) × (e .row ≡ signature (own-row (fresh r))) ⌝ }
 {
     Ended {
         progress: Progress {
@@ -163,7 +163,7 @@ fn stopped(r: Reader, count: usize, at: usize, refusal: u8) -> Ended
 // The reading goes on with the component that record x, before number `at`, begins.
 fn goes_on(r: Reader, x: Record, count: usize, at: usize) -> Ended
     requires { ⌜ Few r × (1 ≤ at) × (at ≤ 3968) × (count < 64) ⌝ }
-    ensures { λ e. ⌜ (fresh (e .progress .reader) ≡ opened (says x) (at - 1) count) × (e .progress .at ≡ at) × (e .progress .count ≡ count + 1) × (e .progress .goes ≡ true) × (e .place ≡ r .number) × (row (e .row) ≡ own-row (fresh r)) ⌝ }
+    ensures { λ e. ⌜ (fresh (e .progress .reader) ≡ opened (says x) (at - 1) count) × (e .progress .at ≡ at) × (e .progress .count ≡ count + 1) × (e .progress .goes ≡ true) × (e .place ≡ r .number) × (e .row ≡ signature (own-row (fresh r))) ⌝ }
 {
     Ended {
         progress: Progress {
@@ -181,7 +181,7 @@ fn goes_on(r: Reader, x: Record, count: usize, at: usize) -> Ended
 // The records of one component, of the first n of a file; before the first, none.
 pub fn read_component(file: &[u8], n: usize, q: Progress, held: &[u16]) -> Ended
     requires { ⌜ (1 ≤ n) × (n ≤ 3968) × (n ≤ 31 * (length (now file) / 512)) × (q .at ≤ n) × Begins q × (160 ≤ length (now held)) ⌝ }
-    ensures { λ e. ⌜ (e .place ≡ q .count - 1) × (e .place < 64) × ((rows : ℕ → Row) → Holds-rows (now (file .entry)) n rows (q .at) (q .count - 1) (now (held .entry)) → Read (now (file .entry)) n (e .progress .goes) rows q e) ⌝ }
+    ensures { λ e. ⌜ (e .place ≡ q .count - 1) × (e .place < 64) × ((rows : ℕ → Row) → Holds-rows (now (file .entry)) n rows (q .at) (q .count - 1) (now (held .entry)) → Read (now (file .entry)) n (e .progress .goes) rows q e) × Exact (e .row) ⌝ }
 {
     let count = q.count;
     let mut instances = [65535u16; 64];

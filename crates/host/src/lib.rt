@@ -108,7 +108,7 @@ pub extern "C" fn dansevik_lower(
 ) -> Reply
     ensures { λ r. ⌜ (r ≡ reply amount (lower-answer (now (file .entry)) (length (now (table .entry))) asked (length (now (out .entry))))) × (now (out .exit) ≡ lower-left (now (file .entry)) (length (now (table .entry))) asked (now (out .entry))) × (now (table .exit) ≡ replicate (length (now (table .entry))) zero-row) ⌝ }
 {
-    of_written(lowering::lower(file, table, size(asked), out))
+    of_written(lowering::lower_judged(file, verdict::opened(file, table), size(asked), out))
 }
 
 // The unit starts of one component, eight bytes each.
@@ -121,7 +121,7 @@ pub extern "C" fn dansevik_list(
 ) -> Reply
     ensures { λ r. ⌜ (r ≡ reply amount (list-answer (now (file .entry)) (length (now (table .entry))) asked (length (now (out .entry))))) × (now (out .exit) ≡ list-left (now (file .entry)) (length (now (table .entry))) asked (now (out .entry))) × (now (table .exit) ≡ replicate (length (now (table .entry))) zero-row) ⌝ }
 {
-    of_written(listing::list(file, table, size(asked), out))
+    of_written(listing::list_judged(file, verdict::opened(file, table), size(asked), out))
 }
 
 // The file of a list of records.

@@ -2,6 +2,7 @@
 -- Assumes nothing.
 use Prim.Native.Nat.{ℕ, _+_, _*_}
 use mathlib.Core.Bool.{Bool, true, false, not}
+use mathlib.Core.Path.{_≡_}
 use mathlib.Core.List.{List}
 use lib.ListN.{getD, set}
 use lib.Dec.{eqb}
@@ -21,6 +22,14 @@ none c = no-row
 abbrev pub bit : Bool → ℕ
 bit true = 1
 bit false = 0
+
+-- The row as plain numbers.
+unfoldable pub signature : Row → Signature
+signature w = record { class = bit (w .built); delay = w .delay; inputs = w .inputs; outputs = w .outputs; first = w .first }
+
+-- Plain numbers that tell their class by 0 or 1.
+abbrev pub Exact : Signature → Type 0
+Exact s = s ≡ signature (row s)
 
 unfoldable pub row-in : List ℕ → ℕ → Row
 row-in rows c =

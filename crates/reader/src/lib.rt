@@ -22,7 +22,7 @@ ghost use Rattle.rules.specs.Lowest.{lowest};
 ghost use Rattle.rules.specs.Calls.{no-look};
 ghost use Rattle.rules.specs.Known.{Known};
 ghost use Rattle.look.specs.Look.{look};
-ghost use Rattle.reader.specs.Rows.{bit, row, row-in, put-row, none};
+ghost use Rattle.reader.specs.Rows.{bit, signature, row, row-in, put-row, none};
 ghost use Rattle.reader.specs.State.{state, fresh, before, begin, viewed, bare, own-row, opened, named, is-component, Few, Turned};
 ghost use Rattle.reader.specs.Noted.{Near, Noted};
 
@@ -350,7 +350,7 @@ pub fn is_component(x: Record) -> bool
 // The row of the component that has been read.
 pub fn own_row(r: Reader) -> Signature
     requires { ⌜ Few r ⌝ }
-    ensures { λ w. ⌜ row w ≡ own-row (fresh r) ⌝ }
+    ensures { λ w. ⌜ w ≡ signature (own-row (fresh r)) ⌝ }
 {
     let place = r.place;
     Signature {

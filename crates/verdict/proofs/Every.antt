@@ -1,39 +1,43 @@
--- What `component::every_component` says is wanted: the rows of all 64 components of a table that has them. It may be handed to `hold`, 320 numbers have room for it, and they are then the rows of an accepted file.
+-- What `all_rows` says is wanted: the rows of all components of an accepted file, which may be handed to `hold`. Put into zeros they are what opening leaves.
 -- Assumes nothing.
 use Prim.Native.Nat.{ℕ, _+_, _*_, _≤_}
-use mathlib.Core.Bool.{Bool, true, false}
-use mathlib.Core.Path.{_≡_, refl, sym, ap, subst, _∙_}
+use mathlib.Core.Bool.{true, false}
+use mathlib.Core.Path.{_≡_, refl, sym, ap, _∙_}
 use mathlib.Core.List.{List}
 use native.Mathlib.Omega.{arith}
-use lib.Dec.{leb}
-use lib.ListN.{length}
-use borrow.Author.Tests.{leb-true}
-use Rattle.answers.specs.Answer.{Answer, Counts}
+use lib.ListN.{length, replicate}
+use borrow.Author.Tests.{ltb-true}
+use Rattle.answers.specs.Answer.{Answer, accepted, refused, Counts}
 use Rattle.signatures.specs.declared.Signature.{Signature}
+use Rattle.entry.specs.Entered.{design}
+use Rattle.look.specs.Listed.{records-of}
 use Rattle.component.specs.declared.Wanted.{Wanted}
-use Rattle.component.specs.declared.Progress.{Progress}
-use Rattle.component.specs.Wanted.{wanted, Sound, gathered}
+use Rattle.component.specs.Wanted.{in-order, wanted, every-below, Sound, gathered}
 use Rattle.component.proofs.Gathered.{in-order-length}
-use Rattle.verdict.specs.Judgement.{judgement, shown, Fills, Filled}
-use Rattle.verdict.specs.Started.{said}
-use Rattle.verdict.proofs.Handed.{filled-all}
+use Rattle.component.proofs.Next.{all-in-order}
+use Rattle.verdict.specs.Judgement.{judgement, components-of, kept}
+use Rattle.verdict.specs.Opening.{zeros, opening-rows, Fills}
+use Rattle.verdict.proofs.Passed.{said-few}
+use Rattle.verdict.proofs.Rows.{gathers-all}
 
-abbrev pub Every : ℕ → Wanted → Type 0
-Every rows w = (w .every ≡ true) × (w .component ≡ 0) × (w .place ≡ 0) × (w .from ≡ 0) × (w .end ≡ 0) × (w .goes ≡ leb 64 rows)
+-- No more than 64 components, and a row for each in the table.
+few-components : (file : List ℕ) (rows : ℕ) (a : Answer Counts) → a ≡ judgement file rows → (components-of a ≤ 64) × (1 ≤ components-of a → 64 ≤ rows)
+few-components file rows (accepted k) j = let s = said-few file rows k (sym j) in (let l = s .0 in let c = s .1 in omega arith, λ _. s .2)
+few-components file rows (refused n p) j = (omega arith, λ l. absurd (omega arith))
 
-few-wanted : (file : List ℕ) (w : Wanted) → w .every ≡ true → w .component ≡ 0 → (b : Bool) → w .goes ≡ b → length (wanted file w) ≤ 64
-few-wanted file w e c true g = let y = in-order-length 63 1 in rw (g, e, c) (omega arith)
-few-wanted file w e c false g = rw g (omega arith)
+module _ (file : List ℕ) (rows : ℕ) (table : List Signature) (ns : List ℕ) (a : Answer Counts) (judges : a ≡ judgement file rows) (w : Wanted) (wants : w ≡ every-below (components-of a)) where
+  pub may-hold : length table ≡ rows → length ns ≡ 320 → Sound file w × (w .goes ≡ true → 64 ≤ length table) × (5 * (w .place + length (wanted file w)) ≤ length ns)
+  may-hold e n =
+      let few = few-components file rows a judges in
+      let l = few .0 in
+      let y : length (wanted file (every-below (components-of a))) ≡ components-of a = ap length (all-in-order file (components-of a)) ∙ in-order-length (components-of a) 0 in
+      rw wants
+      (record { below = omega arith; place = omega arith; in-place = λ _. (refl, l); at = omega arith; few = omega arith; within = λ z. absurd (let x : _≡_ {A = ℕ} 0 1 = cc in omega arith) }, (λ g. let h = few .1 (ltb-true 0 (components-of a) g) in omega arith), omega arith)
 
-pub may-hold : (file : List ℕ) (table : List Signature) (numbers : List ℕ) (rows : ℕ) (w : Wanted) → length table ≡ rows → Every rows w → length numbers ≡ 320
-    → Sound file w × (w .goes ≡ true → 64 ≤ length table) × (5 * (w .place + length (wanted file w)) ≤ length numbers)
-may-hold file table numbers rows w e (every, component, place, from, end, goes) n =
-    let few = few-wanted file w every component (w .goes) refl in
-    (record { below = omega arith; place = omega arith; in-place = λ _. omega arith; at = omega arith; few = omega arith; within = omega arith }, (λ g. leb-true 64 (length table) (ap (leb 64) e ∙ sym goes ∙ g)), omega arith)
-
--- The verdict r on what was read, p, with the numbers that were gathered from the table it was read into.
-pub hands-on : (file : List ℕ) (rows : ℕ) (table : List Signature) (numbers last : List ℕ) (w : Wanted) (p : Progress) (a : Answer Counts) → Every rows w → length numbers ≡ 320
-    → judgement file rows ≡ said p → Fills (judgement file rows) file (shown table) → a ≡ said p → last ≡ gathered numbers table (w .place) (wanted file w) → (a ≡ judgement file rows) × Filled a file last
-hands-on file rows table numbers last w p a (every, component, place, from, end, goes) n read fills answers gathers =
-    let e : a ≡ judgement file rows = answers ∙ sym read in
-    (e, rw gathers (filled-all a file rows table numbers w every component place goes n e (subst (λ (z : Answer Counts). Fills z file (shown table)) (sym e) fills)))
+  pub hands-on : ns ≡ replicate 320 0 → Fills a file (kept table) → gathered ns table (w .place) (wanted file w) ≡ opening-rows a file
+  unfolding zeros gathered in-order
+  hands-on none fills = rw (wants, none, all-in-order file (components-of a)) (go a judges fills)
+    where
+      go : (b : Answer Counts) → b ≡ judgement file rows → Fills b file (kept table) → gathered (zeros 320) table 0 (in-order (components-of b) 0) ≡ opening-rows b file
+      go (accepted k) j f = let s = said-few file rows k (sym j) in rw (sym (s .1)) (gathers-all (design (records-of file (k .records))) table f (s .0))
+      go (refused n p) j f = refl

@@ -7,5 +7,6 @@ pub mod Handed
 pub mod Begins
 pub mod Bytes
 pub mod Holding
+pub mod Rows
 pub mod Every
 pub mod Next

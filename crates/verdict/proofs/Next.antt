@@ -7,6 +7,7 @@ use mathlib.Core.List.{List}
 use lib.ListN.{length}
 use Rattle.reading.specs.Reader.{Row}
 use Rattle.signatures.specs.declared.Signature.{Signature}
+use Rattle.reader.specs.Rows.{Exact}
 use Rattle.component.specs.declared.Wanted.{Wanted}
 use Rattle.component.specs.declared.Progress.{Progress}
 use Rattle.component.specs.declared.Ended.{Ended}
@@ -21,14 +22,14 @@ module _ (file : List ℕ) (n : ℕ) (table : List Signature) (p : Progress) whe
   Asked = (64 ≤ length table) × (1 ≤ n) × (n ≤ 3968) × (n ≤ 31 * (length file / 512)) × (p .at ≤ n) × Begins p
 
   abbrev pub Next : Ended → Type 0
-  Next e = (e .place ≡ p .count - 1) × (e .place < 64) × ((rows : ℕ → Row) → ((c : ℕ) → c < p .count - 1 → shown table c ≡ rows c) → Read file n (e .progress .goes) rows p e)
+  Next e = (e .place ≡ p .count - 1) × (e .place < 64) × ((rows : ℕ → Row) → ((c : ℕ) → c < p .count - 1 → shown table c ≡ rows c) → Read file n (e .progress .goes) rows p e) × Exact (e .row)
 
   -- what `instances_ahead` ensures, and `read_component` with the numbers that it is passed
   abbrev pub Ahead : Wanted → Type 0
   Ahead w = Sound file w × (wanted file w ≡ ahead file (n - p .at) (p .at) 0) × (w .place ≡ 0)
 
   abbrev pub Component : List ℕ → Ended → Type 0
-  Component held e = (e .place ≡ p .count - 1) × (e .place < 64) × ((rows : ℕ → Row) → Holds-rows file n rows (p .at) (p .count - 1) held → Read file n (e .progress .goes) rows p e)
+  Component held e = (e .place ≡ p .count - 1) × (e .place < 64) × ((rows : ℕ → Row) → Holds-rows file n rows (p .at) (p .count - 1) held → Read file n (e .progress .goes) rows p e) × Exact (e .row)
 
   -- what `hold` asks
   abbrev pub Holdable : List ℕ → Wanted → Type 0
@@ -39,4 +40,4 @@ module _ (file : List ℕ) (n : ℕ) (table : List Signature) (p : Progress) whe
     may-hold asked = (found .0, (λ _. asked .0), few-wanted file n (p .at) w (found .1) (found .2) (length held) len)
 
     pub next-read : (last : List ℕ) → last ≡ gathered held table (w .place) (wanted file w) → (e : Ended) → Component last e → Next e
-    next-read last so e read = (read .0, read .1, λ rows shows. read .2 rows (subst (Holds-rows file n rows (p .at) (p .count - 1)) (sym so) (held-ahead file n (p .at) w (found .1) (found .2) table held rows (p .count - 1) len shows)))
+    next-read last so e read = (read .0, read .1, (λ rows shows. read .2 rows (subst (Holds-rows file n rows (p .at) (p .count - 1)) (sym so) (held-ahead file n (p .at) w (found .1) (found .2) table held rows (p .count - 1) len shows))), read .3)

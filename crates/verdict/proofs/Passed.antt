@@ -1,12 +1,13 @@
 -- What acceptance has passed: the table's length, the blocks, the records.
 -- Assumes nothing.
-use Prim.Native.Nat.{ℕ}
+use Prim.Native.Nat.{ℕ, _≤_}
 use mathlib.Core.Path.{_≡_, refl, sym, ap, _∙_}
 use mathlib.Core.List.{List}
 use mathlib.Core.Bool.{Bool, true, false, cond}
 use native.Mathlib.Omega.{arith}
 use lib.ListN.{length}
 use lib.Dec.{ltb}
+use borrow.Author.Tests.{ltb-false}
 use Rattle.answers.specs.Answer.{Answer, accepted, refused, then, Counts}
 use Rattle.blocks.specs.File.{sound}
 use Rattle.timeline.specs.Rules.{Lawful}
@@ -14,7 +15,7 @@ use Rattle.entry.specs.Records.{records}
 use Rattle.entry.specs.Entered.{design}
 use Rattle.entry.specs.Answers as Entry
 use Rattle.entry.specs.Verdict.{verdict}
-use Rattle.entry.specs.Main.{accepted-exactly, its-records}
+use Rattle.entry.specs.Main.{accepted-exactly, its-records, the-design}
 use Rattle.verdict.proofs.Whole.{length-from}
 use Rattle.look.specs.Listed.{records-of}
 use Rattle.verdict.specs.Judgement.{counts, judgement}
@@ -56,5 +57,17 @@ module _ (file : List ℕ) (c r : ℕ) (p : Passed file c r) where
   pub record-total : r ≡ p .count
   record-total = let (D, lawful, e, g, h) = (accepted-exactly (records-of file (p .count)) c r) .0 (p .rules) in sym h ∙ length-records file (p .count)
 
+  -- As many components as its design has.
+  component-total : length (design (records-of file r)) ≡ c
+  component-total =
+      let (D, lawful, e, g, h) = (accepted-exactly (records-of file (p .count)) c r) .0 (p .rules) in
+      rw (record-total, sym e) (ap length (the-design D (lawful .whole)) ∙ g)
+
   pub said-lawful : Lawful (design (records-of file r)) × (records (design (records-of file r)) ≡ records-of file r)
   said-lawful = rw record-total (its-records (records-of file (p .count)) c r (p .rules))
+
+-- An accepted file has at most 64 components, the table a row for each.
+pub said-few : (file : List ℕ) (rows : ℕ) (k : Counts) → judgement file rows ≡ accepted k → (length (design (records-of file (k .records))) ≤ 64) × (length (design (records-of file (k .records))) ≡ k .components) × (64 ≤ rows)
+said-few file rows k e =
+    let p = passed file rows (k .components) (k .records) e in
+    (said-lawful file (k .components) (k .records) p .0 .few, component-total file (k .components) (k .records) p, ltb-false rows 64 (enough-rows file rows k e))

@@ -1,4 +1,4 @@
--- What judging a file answers, and what the table then holds. (01, Answers)
+-- What judging a file answers, and what a table and numbers show. (01, Answers)
 -- Assumes nothing.
 use Prim.Native.Nat.{ℕ}
 use mathlib.Core.Bool.{cond}
@@ -26,15 +26,19 @@ counts (Entry.refused n p) = refused n p
 unfoldable pub judgement : List ℕ → (rows : ℕ) → Answer Counts
 judgement file rows = cond (ltb rows 64) (refused 13 0) (then (sound file) (λ (n : ℕ). counts (verdict (records-of file n))))
 
--- What a table shows of a component.
+-- How many components an accepted file has; a refused one, none.
+abbrev pub components-of : Answer Counts → ℕ
+components-of (accepted k) = k .components
+components-of (refused n p) = 0
+
+-- What a table has of a component, and what that shows.
+abbrev pub kept : (table : List Signature) → ℕ → Signature
+kept table c = getD table c zero-row
+
 abbrev pub shown : (table : List Signature) → ℕ → Row
-shown table c = row (getD table c zero-row)
+shown table c = row (kept table c)
 
--- Of an accepted file, the row of each component.
-abbrev pub Fills : Answer Counts → List ℕ → (ℕ → Row) → Type 0
-Fills (accepted k) file f = Table-of (design (records-of file (k .records))) f
-Fills (refused n p) file f = Unit
-
--- As numbers, five to a row.
+-- Numbers, five to a row, show of an accepted file the row of each component.
 abbrev pub Filled : Answer Counts → List ℕ → (rows : List ℕ) → Type 0
-Filled a file rows = Fills a file (λ c. row-in rows c)
+Filled (accepted k) file rows = Table-of (design (records-of file (k .records))) (λ c. row-in rows c)
+Filled (refused n p) file rows = Unit

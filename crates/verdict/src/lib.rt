@@ -16,8 +16,10 @@ ghost use Rattle.answers.specs.Answer.{number, judged};
 ghost use Rattle.reading.specs.Reader.{Row};
 ghost use Rattle.signatures.specs.Rows.{zero-row};
 ghost use Rattle.component.specs.Component.{Begins, Read};
-ghost use Rattle.component.specs.Wanted.{wanted, Sound, gathered};
-ghost use Rattle.verdict.specs.Judgement.{judgement, shown, Fills, Filled};
+ghost use Rattle.component.specs.Wanted.{wanted, every-below, Sound, gathered};
+ghost use Rattle.reader.specs.Rows.{Exact};
+ghost use Rattle.verdict.specs.Judgement.{judgement, components-of, kept, shown, Filled};
+ghost use Rattle.verdict.specs.Opening.{Fills, opening-rows};
 ghost use Rattle.verdict.specs.Started.{said, Starts};
 
 fn small(x: u64) -> u8
@@ -108,6 +110,19 @@ fn answered(q: Progress) -> Verdict
     }
 }
 
+// The rows of all components of an accepted file; of a refused one, none.
+fn all_rows(v: Verdict) -> Wanted
+    ensures { λ w. ⌜ w ≡ every-below (components-of (judged v)) ⌝ }
+{
+    match v {
+        Verdict::Accepted {
+            components,
+            records,
+        } => component::every_component(components),
+        Verdict::Refused(r) => component::every_component(0),
+    }
+}
+
 // The rows of the components that are wanted, as numbers.
 fn hold(file: &[u8], table: &[Signature], first: Wanted, rows: &mut [u16])
     requires { ⌜ Sound (now file) first × (first .goes ≡ true → 64 ≤ length (now table)) × (5 * (first .place + length (wanted (now file) first)) ≤ length (now rows)) ⌝ }
@@ -123,7 +138,7 @@ fn hold(file: &[u8], table: &[Signature], first: Wanted, rows: &mut [u16])
 // The next component's records, with the rows that its instances want.
 fn read_next(file: &[u8], n: usize, table: &[Signature], q: Progress) -> Ended
     requires { ⌜ (64 ≤ length (now table)) × (1 ≤ n) × (n ≤ 3968) × (n ≤ 31 * (length (now file) / 512)) × (q .at ≤ n) × Begins q ⌝ }
-    ensures { λ e. ⌜ (e .place ≡ q .count - 1) × (e .place < 64) × ((rows : ℕ → Row) → ((c : ℕ) → c < q .count - 1 → shown (now (table .entry)) c ≡ rows c) → Read (now (file .entry)) n (e .progress .goes) rows q e) ⌝ }
+    ensures { λ e. ⌜ (e .place ≡ q .count - 1) × (e .place < 64) × ((rows : ℕ → Row) → ((c : ℕ) → c < q .count - 1 → shown (now (table .entry)) c ≡ rows c) → Read (now (file .entry)) n (e .progress .goes) rows q e) × Exact (e .row) ⌝ }
 {
     let mut held = [0u16; 160];
     hold(
@@ -136,8 +151,8 @@ fn read_next(file: &[u8], n: usize, table: &[Signature], q: Progress) -> Ended
 }
 
 // All records, component by component; the table of an accepted file is left with the row of each component.
-fn read(file: &[u8], table: &mut [Signature]) -> Progress
-    ensures { λ q. ⌜ (judgement (now (file .entry)) (length (now (table .entry))) ≡ said q) × (q .refusal ≤ 14) × Fills (judgement (now (file .entry)) (length (now (table .entry)))) (now (file .entry)) (shown (now (table .exit))) ⌝ }
+fn read(file: &[u8], table: &mut [Signature]) -> Verdict
+    ensures { λ v. ⌜ (judged v ≡ judgement (now (file .entry)) (length (now (table .entry)))) × Fills (judged v) (now (file .entry)) (kept (now (table .exit))) ⌝ }
 {
     let begun = begin(file, table.len());
     let n = begun.records;
@@ -147,47 +162,38 @@ fn read(file: &[u8], table: &mut [Signature]) -> Progress
         signatures::store(table, e.place, e.row);
         q = e.progress;
     }
-    q
+    answered(q)
 }
 
 // The verdict, and a table of zeros.
 pub fn judge(file: &[u8], table: &mut [Signature]) -> Verdict
     ensures { λ r. ⌜ (judged r ≡ judgement (now (file .entry)) (length (now (table .entry)))) × (now (table .exit) ≡ replicate (length (now (table .entry))) zero-row) ⌝ }
 {
-    let q = read(file, table);
+    let verdict = read(file, table);
     signatures::clear(table);
-    answered(q)
+    verdict
 }
 
-// The verdict, with the row of each component of an accepted file handed on as numbers, and a table of zeros.
-pub fn open(file: &[u8], table: &mut [Signature], rows: &mut [u16]) -> Verdict
-    requires { ⌜ length (now rows) ≡ 320 ⌝ }
-    ensures { λ r. ⌜ (judged r ≡ judgement (now (file .entry)) (length (now (table .entry)))) × Filled (judged r) (now (file .entry)) (now (rows .exit)) × (now (table .exit) ≡ replicate (length (now (table .entry))) zero-row) ⌝ }
-{
-    let q = read(file, table);
-    hold(file, table, component::every_component(table.len()), rows);
-    signatures::clear(table);
-    answered(q)
-}
-
-// A verdict, and the row of each component of an accepted file, five numbers to a row.
+// A verdict, and the row of each component of an accepted file, five numbers to a row; what is left over is zero.
 pub struct Opening {
     pub verdict: Verdict,
     pub rows: [u16; 320],
 }
 
-// The same, handed back whole.
+// The verdict, with the rows handed on as numbers, and a table of zeros.
 pub fn opened(file: &[u8], table: &mut [Signature]) -> Opening
-    ensures { λ o. ⌜ (judged (o .verdict) ≡ judgement (now (file .entry)) (length (now (table .entry)))) × Filled (judged (o .verdict)) (now (file .entry)) (o .rows) × (length (o .rows) ≡ 320) × (now (table .exit) ≡ replicate (length (now (table .entry))) zero-row) ⌝ }
+    ensures { λ o. ⌜ (judged (o .verdict) ≡ judgement (now (file .entry)) (length (now (table .entry)))) × (o .rows ≡ opening-rows (judged (o .verdict)) (now (file .entry))) × (now (table .exit) ≡ replicate (length (now (table .entry))) zero-row) ⌝ }
 {
+    let verdict = read(file, table);
     let mut rows = [0u16; 320];
-    let verdict = open(file, table, &mut rows);
+    hold(file, table, all_rows(verdict), &mut rows);
+    signatures::clear(table);
     Opening { verdict, rows }
 }
 
 // For callers that lend no table: one is made and lent here.
 pub fn open_alone(file: &[u8]) -> Opening
-    ensures { λ o. ⌜ (judged (o .verdict) ≡ judgement (now (file .entry)) 64) × Filled (judged (o .verdict)) (now (file .entry)) (o .rows) × (length (o .rows) ≡ 320) ⌝ }
+    ensures { λ o. ⌜ (judged (o .verdict) ≡ judgement (now (file .entry)) 64) × Filled (judged (o .verdict)) (now (file .entry)) (o .rows) × (length (o .rows) ≡ 320) × (o .rows ≡ opening-rows (judged (o .verdict)) (now (file .entry))) ⌝ }
 {
     let none = Signature {
         class: 0,

@@ -2,7 +2,7 @@
 -- Assumes nothing.
 use Prim.Native.Nat.{_-_}
 use borrow.Author.Needs.{needs}
-use Rattle.reader.proofs.Class.{class-back}
+use Rattle.reader.specs.Rows.{signature}
 use Rattle.reader.proofs.own_row.Statement.{statement}
 use Rattle.reader.proofs.own_row.Tie as tie
 
@@ -22,7 +22,8 @@ half-requires-4 : tie.Need-half-requires-4
 half-requires-4 c κs = search needs
 
 returns : tie.Need-returns
-returns c = rw (c .before .before .before .before .bit .ensures, class-back (c .before .before .before .before .before .before .args .r .place .built), c .before .before .before .half .ensures, c .before .before .half2 .ensures, c .before .half3 .ensures, c .half4 .ensures)
+unfolding signature
+returns c = rw (c .before .before .before .before .bit .ensures, c .before .before .before .half .ensures, c .before .before .half2 .ensures, c .before .half3 .ensures, c .half4 .ensures)
 
 pub own-row-spec : {M : Type 1} → statement M
 own-row-spec =

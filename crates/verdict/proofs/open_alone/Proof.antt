@@ -38,9 +38,11 @@ use Rattle.walks.proofs.Walk.{Params, shared, ends, Known, Walk, by-walk}
 use Rattle.walks.proofs.Passing.{turn, told}
 use Rattle.walks.proofs.Local.{repeats, spells-whole, lends-array, array-home}
 use Rattle.verdict.specs.Judgement.{judgement, Filled}
+use Rattle.verdict.specs.Opening.{opening-rows}
 use Rattle.verdict.specs.declared.Opening.{Opening}
 use Rattle.verdict.proofs.Opening as G
 use Rattle.verdict.proofs.Opening.Laws as G′
+use Rattle.verdict.proofs.Rows.{opened-filled}
 use Rattle.verdict.proofs.opened as opened
 use Rattle.verdict.proofs.opened.Symbol as opened-def
 use Rattle.verdict.proofs.opened.Symbol.{name as #verdict·opened}
@@ -60,7 +62,7 @@ module _ {M : Type 1} (𝓤 : URA M) (H : Heap 𝓤) (A : Atoms 𝓤) (W : Given
   module _ (κf : Lft) (qf : Share) (xf : RefT (List ℕ)) (l : ℕ → ℕ) where
     -- what `opened` ensures
     abbrev Learnt : List Signature → Opening → List Signature → Type 0
-    Learnt ys o zs = (judged (o .verdict) ≡ judgement (xf .now) (length ys)) × Filled (judged (o .verdict)) (xf .now) (o .rows) × (length (o .rows) ≡ 320) × (zs ≡ replicate (length ys) zero-row)
+    Learnt ys o zs = (judged (o .verdict) ≡ judgement (xf .now) (length ys)) × (o .rows ≡ opening-rows (judged (o .verdict)) (xf .now)) × (zs ≡ replicate (length ys) zero-row)
 
     -- local k stands at k, and what there is besides behind the locals
     walks : Walk 𝓤 H A W alone.ended params (alone.clauses 𝓤 H A mem run) code.function 𝓣 (((κf, tt), (qf, tt), tt, (xf, tt), (slice-vals xf, tt)), tt) l
@@ -74,7 +76,8 @@ module _ {M : Type 1} (𝓤 : URA M) (H : Heap 𝓤) (A : Atoms 𝓤) (W : Given
         -- [_0; …; _5; the right to free them; true; file's token; what o owns]
         leaves ! (_ ∷ _ ∷ _ ∷ _ ∷ _ ∷ []) $ nothing ! $ keep ! (3 ∷ 0 ∷ 2 ∷ []) $
         ends W alone.ended params (alone.clauses 𝓤 H A mem run) (((κf, tt), (qf, tt), tt, (xf, tt), (slice-vals xf, tt)), tt) o (tt, tt) ! (tt, tt)
-        (factI 𝓤 ((judged (o .verdict) ≡ judgement (xf .now) 64) × Filled (judged (o .verdict)) (xf .now) (o .rows) × (length (o .rows) ≡ 320)) (emp 𝓤) (e .0 ∙ ap (judgement (xf .now)) (is-ys .1 .0 .1), e .1, e .2))))))))
+        (factI 𝓤 ((judged (o .verdict) ≡ judgement (xf .now) 64) × Filled (judged (o .verdict)) (xf .now) (o .rows) × (length (o .rows) ≡ 320) × (o .rows ≡ opening-rows (judged (o .verdict)) (xf .now))) (emp 𝓤)
+        (let filled = opened-filled (xf .now) (length ys) (judged (o .verdict)) (o .rows) (e .0) (e .1) in (e .0 ∙ ap (judgement (xf .now)) (is-ys .1 .0 .1), filled .0, filled .1, e .1)))))))))
 
 pub open-alone-spec : {M : Type 1} → stated.statement M
 unfolding code.routine tablesOf

@@ -1,4 +1,4 @@
--- `verdict::read` meets its contract: a walk of its MIR, by hand, with a loop and three calls. In a turn the table is lent as a shared slice to `read_next`, at a lifetime that is made for the call, and then as a mutable one to `store`, at another.
+-- `verdict::read` meets its contract: a walk of its MIR, by hand, with a loop and four calls. In a turn the table is lent as a shared slice to `read_next`, at a lifetime that is made for the call, and then as a mutable one to `store`, at another; `answered` turns what was read into the verdict.
 -- Assumes nothing.
 use mathlib.Core.Path.{_≡_, refl, sym, ap, subst, _∙_}
 use Prim.Native.Nat.{ℕ, _<_, _≤_, _-_, _*_, _/_, _^_}
@@ -19,7 +19,7 @@ use prog.Memory.{Memory}
 use prog.Routine.{Routine}
 use prog.Wp.{Heap, Out, Env, afterSeq, afterBlock, afterTurn, Calls, Loops, Wp, atReturn, WpFn, Tables}
 use ghost.Atoms.{Atoms, sem}
-use contract.Monad.{Fun, fact}
+use contract.Monad.{Fun, fact, factI}
 use contract.Running.{givenOf, tables, tablesOf}
 use types.Kit.{Given, Item, ‵, raw, _⊛_, some, later, given, learn, ⋆, runs, anyQ, atRet, Sq, _$_, _∵_, !, qed, by, move, keep, drop, use1, use2, use3, split, join, pick, rewrite, fsplit, fjoin, feqL, suffices, frame, await, done}
 use types.Part.{whole, sub, look-in, agg}
@@ -36,6 +36,7 @@ use denote.Slice.{sliceTy, sliceVal, MutSlice, ShrSlice, Room, slice-vals, mut-s
 use denote.Signature.{plain}
 use denote.Steps.{only, owned, peeks, heard, nothing}
 use denote.Struct.Laws as LL
+use denote.Enum.Laws as EL
 use denote.Triple.Statement.{Contract, Triple}
 use denote.Triple.Call.{calls-at}
 use denote.Triple.Entry.{Vals, onEntry}
@@ -45,17 +46,25 @@ use denote.Triple.Clauses.{ensured, lasts}
 use denote.Triple.Walked.{says, Stays, stay-none-slice, stay-slice, walkOf, goes-none-slice, goes-slice, Walks, ends-at, walked, walk-meets}
 use denote.Exit.{yes}
 use Rattle.numbers.specs.Numbers.{Bytes}
+use Rattle.answers.specs.declared.Verdict.{Verdict}
+use Rattle.answers.specs.Answer.{judged}
+use Rattle.answers.proofs.Verdict as O
+use Rattle.answers.proofs.Verdict.Laws as O′
 use Rattle.reading.specs.Reader.{Row}
 use Rattle.signatures.specs.declared.Signature.{Signature}
 use Rattle.signatures.proofs.Signature as T
 use Rattle.signatures.proofs.Signature.Laws as T′
 use Rattle.walks.proofs.After.{after}
+use Rattle.walks.proofs.Call.{calls-into}
+use Rattle.walks.proofs.Walk.{Known}
+use Rattle.walks.proofs.Passing.{turn}
 use Rattle.walks.proofs.Again.{LentAgain, lends-again, comes-back}
 use Rattle.walks.proofs.Shared.{LentShared, lends-shared, shared-back}
 use Rattle.signatures.proofs.store as store
 use Rattle.signatures.proofs.store.Symbol as store-def
 use Rattle.signatures.proofs.store.Symbol.{name as #signatures·store}
 use Rattle.signatures.proofs.store.Met as store-thm
+use Rattle.reader.specs.Rows.{Exact}
 use Rattle.component.specs.declared.Progress.{Progress}
 use Rattle.component.specs.declared.Ended.{Ended}
 use Rattle.component.specs.Component.{Begins, Read}
@@ -64,10 +73,11 @@ use Rattle.component.proofs.Progress.Laws as P′
 use Rattle.component.proofs.Ended as E
 use Rattle.component.proofs.Ended.Laws as E′
 use Rattle.verdict.specs.declared.Begun.{Begun}
-use Rattle.verdict.specs.Judgement.{judgement, shown, Fills}
+use Rattle.verdict.specs.Judgement.{judgement, kept, shown}
+use Rattle.verdict.specs.Opening.{Fills}
 use Rattle.verdict.specs.Started.{said, Starts}
 use Rattle.verdict.proofs.Bytes.{bytes-known}
-use Rattle.verdict.proofs.Handed.{shown-stored}
+use Rattle.verdict.proofs.Handed.{kept-stored}
 use Rattle.verdict.proofs.Reached.{left, Stands, stands-first, stands-needs, stands-less, stands-next, stands-done}
 use Rattle.verdict.proofs.Begun as B
 use Rattle.verdict.proofs.Begun.Laws as B′
@@ -79,6 +89,10 @@ use Rattle.verdict.proofs.read_next as next
 use Rattle.verdict.proofs.read_next.Symbol as next-def
 use Rattle.verdict.proofs.read_next.Symbol.{name as #verdict·read-next}
 use Rattle.verdict.proofs.read_next.Met as next-thm
+use Rattle.verdict.proofs.answered as answered
+use Rattle.verdict.proofs.answered.Symbol as answered-def
+use Rattle.verdict.proofs.answered.Symbol.{name as #verdict·answered}
+use Rattle.verdict.proofs.answered.Met as answered-thm
 use Rattle.verdict.proofs.read.Key.{name as #verdict·read}
 use Rattle.verdict.proofs.read as read
 use Rattle.verdict.proofs.read.Statement as stated
@@ -114,7 +128,7 @@ slice-e = sliceTy ref-e
 
 -- what `read_next` ensures of the component that it has read
 abbrev Told : (fs : List ℕ) (n : ℕ) → List Signature → Progress → Ended → Type 0
-Told fs n l q e = (e .place ≡ q .count - 1) × (e .place < 64) × ((rows : ℕ → Row) → ((c : ℕ) → c < q .count - 1 → shown l c ≡ rows c) → Read fs n (e .progress .goes) rows q e)
+Told fs n l q e = (e .place ≡ q .count - 1) × (e .place < 64) × ((rows : ℕ → Row) → ((c : ℕ) → c < q .count - 1 → shown l c ≡ rows c) → Read fs n (e .progress .goes) rows q e) × Exact (e .row)
 
 -- what the loop carries, with what is known of it: q is the reading so far, l the table
 record Loop (fs : List ℕ) (rows n : ℕ) : Type 0 where
@@ -122,7 +136,7 @@ record Loop (fs : List ℕ) (rows n : ℕ) : Type 0 where
   pub l : List Signature
   pub len : length l ≡ rows
   pub good : Is P.the-row q (P′.lowered q ∷ [])
-  pub stands : Stands fs rows n (q .goes) (shown l) q
+  pub stands : Stands fs rows n (q .goes) (kept l) q
 
 module _ {M : Type 1} (𝓤 : URA M) (H : Heap 𝓤) (A : Atoms 𝓤) (mem : Memory → SProp 𝓤) (run : Routine → Fun 𝓤) where
   -- the contracts that the proof cites, and of a callee's `ensured` the clause alone, where it has no last value
@@ -171,12 +185,12 @@ module _ {M : Type 1} (𝓤 : URA M) (H : Heap 𝓤) (A : Atoms 𝓤) (W : Given
   room-of : (l : List Signature) → length l ≡ length ys → Room T.the-row (length l)
   room-of l e = subst (Room T.the-row) (sym e) room
 
-  exits : (r : Progress) (l : List Signature) → length l ≡ length ys → (judgement fs (length ys) ≡ said r) × (r .refusal ≤ 14) × Fills (judgement fs (length ys)) fs (shown l)
-      → ent 𝓤 (⋆ 𝓤 H A ((‵ (flft κf qf) ⊛ ‵ (flft κ qt) ⊛ ‵ ftrue) ∷ ‵ OwnF ∷ ‵ (OwnT l) ∷ ‵ (P.the-row .own r (P′.lowered r ∷ [])) ∷ [])) (Post (P′.lowered r))
-  exits r l len e =
-      qed W ((‵ (flft κf qf) ⊛ ‵ (flft κ qt) ⊛ ‵ ftrue) ∷ ‵ OwnF ∷ ‵ (OwnT l) ∷ ‵ (P.the-row .own r (P′.lowered r ∷ [])) ∷ []) ∵
+  exits : (v : Val) (r : Verdict) (l : List Signature) → length l ≡ length ys → (judged r ≡ judgement fs (length ys)) × Fills (judged r) fs (kept l)
+      → ent 𝓤 (⋆ 𝓤 H A ((‵ (flft κf qf) ⊛ ‵ (flft κ qt) ⊛ ‵ ftrue) ∷ ‵ OwnF ∷ ‵ (OwnT l) ∷ ‵ (O.the-row .own r (v ∷ [])) ∷ [])) (Post v)
+  exits v r l len e =
+      qed W ((‵ (flft κf qf) ⊛ ‵ (flft κ qt) ⊛ ‵ ftrue) ∷ ‵ OwnF ∷ ‵ (OwnT l) ∷ ‵ (O.the-row .own r (v ∷ [])) ∷ []) ∵
       rewrite ! 2 (λ (m : ℕ). ‵ (MutSlice (named 1) κ T.the-row .own (x γ l) (s m ∷ []))) len refl $
-      suffices ! _ (ends-at 𝓤 H A read.ended stayed (read.clauses 𝓤 H A mem run) W (((κf, (κ, tt)), (qf, (qt, tt)), tt, (xf, (x γ ys, tt)), at), tt) (P′.lowered r) r (tt, (l, tt)) (tt, (len, tt))) $ says ! e $ frame ! $
+      suffices ! _ (ends-at 𝓤 H A read.ended stayed (read.clauses 𝓤 H A mem run) W (((κf, (κ, tt)), (qf, (qt, tt)), tt, (xf, (x γ ys, tt)), at), tt) v r (tt, (l, tt)) (tt, (len, tt))) $ says ! e $ frame ! $
       nothing ! $ move ! (2 ∷ 0 ∷ []) $ fjoin ! $ move ! (1 ∷ 0 ∷ []) $ fjoin ! $ frame ! $ done !
 
   -- what each callee's triple binds outside, and that the caller has what it asks
@@ -217,7 +231,7 @@ module _ {M : Type 1} (𝓤 : URA M) (H : Heap 𝓤) (A : Atoms 𝓤) (W : Given
         qed W (‵ LentMut ∷ ‵ (flft κ′ fullShare) ∷ []) ∵ says ! within $ nothing ! $ move ! (2 ∷ 0 ∷ []) $ join ! $ frame ! $
         nothing ! $ owned ! T.the-row (Is T.the-row) ((LL.makes T.the-type T′.the-plain) 𝓤 H A) r _ is-r $ fjoin ! $ owned ! usize (Is usize) (uint-makes 𝓤 H A W w64) i _ (refl, i-fits) $ fjoin ! $ move ! (1 ∷ 0 ∷ []) $ fjoin ! $ done !
 
-  module _ (𝓣 : Tables 𝓤 H) (fm : FmC 𝓤 H (W .laws) (𝓣 .C)) (known-begin : Triple 𝓤 (𝓣 .C #verdict·begin) (Begin 𝓤 H A mem run)) (known-next : Triple 𝓤 (𝓣 .C #verdict·read-next) (Next 𝓤 H A mem run)) (known-store : Triple 𝓤 (𝓣 .C #signatures·store) (Store 𝓤 H A mem run)) where
+  module _ (𝓣 : Tables 𝓤 H) (fm : FmC 𝓤 H (W .laws) (𝓣 .C)) (known-begin : Triple 𝓤 (𝓣 .C #verdict·begin) (Begin 𝓤 H A mem run)) (known-next : Triple 𝓤 (𝓣 .C #verdict·read-next) (Next 𝓤 H A mem run)) (known-store : Triple 𝓤 (𝓣 .C #signatures·store) (Store 𝓤 H A mem run)) (known-answered : Known 𝓤 H A 𝓣 #verdict·answered answered.ended (answered.clauses 𝓤 H A mem run)) where
     abbrev C : Calls 𝓤 H
     C = 𝓣 .C
 
@@ -226,7 +240,7 @@ module _ {M : Type 1} (𝓤 : URA M) (H : Heap 𝓤) (A : Atoms 𝓤) (W : Given
 
     module _ (l₀ l₁ l₂ l₃ l₄ l₅ l₆ l₇ l₈ l₉ l₁₀ l₁₁ l₁₂ l₁₃ : ℕ) where
       abbrev En : Env 𝓤 H
-      En = (P′.mir, l₀) ∷ (slice-f, l₁) ∷ (slice-t, l₂) ∷ (B′.mir, l₃) ∷ (word, l₄) ∷ (P′.mir, l₅) ∷ (E′.mir, l₆) ∷ (word, l₇) ∷ (tyBool, l₈) ∷ (ref-i, l₉) ∷ (slice-i, l₁₀) ∷ (tyUnit, l₁₁) ∷ (ref-e, l₁₂) ∷ (slice-e, l₁₃) ∷ []
+      En = (O′.mir, l₀) ∷ (slice-f, l₁) ∷ (slice-t, l₂) ∷ (B′.mir, l₃) ∷ (word, l₄) ∷ (P′.mir, l₅) ∷ (E′.mir, l₆) ∷ (word, l₇) ∷ (tyBool, l₈) ∷ (ref-i, l₉) ∷ (slice-i, l₁₀) ∷ (tyUnit, l₁₁) ∷ (ref-e, l₁₂) ∷ (slice-e, l₁₃) ∷ []
 
       -- the loop, over n records
       module _ (n : ℕ) (n-fits : n < 2 ^ 64) where
@@ -244,14 +258,14 @@ module _ {M : Type 1} (𝓤 : URA M) (H : Heap 𝓤) (A : Atoms 𝓤) (W : Given
         At u = ‵ (OwnT (u .l)) ∷ ‵ (flft κ qt) ∷ ‵ (flft κf qf) ∷ ‵ OwnF
             ∷ ‵ (froom slice-e l₁₃ 0) ∷ ‵ (fdies slice-e l₁₃) ∷ ‵ (froom ref-e l₁₂ 0) ∷ ‵ (fdies ref-e l₁₂) ∷ ‵ (froom tyUnit l₁₁ 0) ∷ ‵ (fdies tyUnit l₁₁) ∷ ‵ (froom slice-i l₁₀ 0) ∷ ‵ (fdies slice-i l₁₀) ∷ ‵ (froom ref-i l₉ 0) ∷ ‵ (fdies ref-i l₉)
             ∷ ‵ (froom tyBool l₈ 0) ∷ ‵ (fdies tyBool l₈) ∷ ‵ (froom word l₇ 0) ∷ ‵ (fdies word l₇) ∷ ‵ (froom E′.mir l₆ 0) ∷ ‵ (fdies E′.mir l₆) ∷ ‵ (fat fullShare P′.mir l₅ 0 (P′.lowered (u .q))) ∷ ‵ (fdies P′.mir l₅) ∷ ‵ (fat fullShare word l₄ 0 (vint w64 n)) ∷ ‵ (fdies word l₄)
-            ∷ ‵ (froom B′.mir l₃ 0) ∷ ‵ (fdies B′.mir l₃) ∷ ‵ (fat fullShare slice-t l₂ 0 (s (length (u .l)))) ∷ ‵ (fdies slice-t l₂) ∷ ‵ (fat fullShare slice-f l₁ 0 sf) ∷ ‵ (fdies slice-f l₁) ∷ ‵ (froom P′.mir l₀ 0) ∷ ‵ (fdies P′.mir l₀) ∷ []
+            ∷ ‵ (froom B′.mir l₃ 0) ∷ ‵ (fdies B′.mir l₃) ∷ ‵ (fat fullShare slice-t l₂ 0 (s (length (u .l)))) ∷ ‵ (fdies slice-t l₂) ∷ ‵ (fat fullShare slice-f l₁ 0 sf) ∷ ‵ (fdies slice-f l₁) ∷ ‵ (froom O′.mir l₀ 0) ∷ ‵ (fdies O′.mir l₀) ∷ []
 
         -- after the call of `read_next`, at its result e
         abbrev Called : Reading → Ended → List (Item 𝓤)
         Called u e = ‵ (OwnT (u .l)) ∷ ‵ (flft κ qt) ∷ ‵ (flft κf qf) ∷ ‵ OwnF
             ∷ ‵ (froom slice-e l₁₃ 0) ∷ ‵ (fdies slice-e l₁₃) ∷ ‵ (froom ref-e l₁₂ 0) ∷ ‵ (fdies ref-e l₁₂) ∷ ‵ (froom tyUnit l₁₁ 0) ∷ ‵ (fdies tyUnit l₁₁) ∷ ‵ (fat fullShare slice-i l₁₀ 0 (s (length (u .l)))) ∷ ‵ (fdies slice-i l₁₀) ∷ ‵ (fat fullShare ref-i l₉ 0 (vptr b o)) ∷ ‵ (fdies ref-i l₉)
             ∷ ‵ (fat fullShare tyBool l₈ 0 (vbool true)) ∷ ‵ (fdies tyBool l₈) ∷ ‵ (froom word l₇ 0) ∷ ‵ (fdies word l₇) ∷ ‵ (fat fullShare E′.mir l₆ 0 (E′.lowered e)) ∷ ‵ (fdies E′.mir l₆) ∷ ‵ (fat fullShare P′.mir l₅ 0 (P′.lowered (u .q))) ∷ ‵ (fdies P′.mir l₅) ∷ ‵ (fat fullShare word l₄ 0 (vint w64 n)) ∷ ‵ (fdies word l₄)
-            ∷ ‵ (froom B′.mir l₃ 0) ∷ ‵ (fdies B′.mir l₃) ∷ ‵ (fat fullShare slice-t l₂ 0 (s (length (u .l)))) ∷ ‵ (fdies slice-t l₂) ∷ ‵ (fat fullShare slice-f l₁ 0 sf) ∷ ‵ (fdies slice-f l₁) ∷ ‵ (froom P′.mir l₀ 0) ∷ ‵ (fdies P′.mir l₀) ∷ []
+            ∷ ‵ (froom B′.mir l₃ 0) ∷ ‵ (fdies B′.mir l₃) ∷ ‵ (fat fullShare slice-t l₂ 0 (s (length (u .l)))) ∷ ‵ (fdies slice-t l₂) ∷ ‵ (fat fullShare slice-f l₁ 0 sf) ∷ ‵ (fdies slice-f l₁) ∷ ‵ (froom O′.mir l₀ 0) ∷ ‵ (fdies O′.mir l₀) ∷ []
 
         abbrev Turned : Reading → Out → SProp 𝓤
         Turned u = afterTurn 𝓤 H (Below 𝓤 H A Nearer At u) (afterBlock 𝓤 H (afterSeq 𝓤 H (Wp 𝓤 H C Λ En text.t-6 (atReturn 𝓤 H En Post)) (atReturn 𝓤 H En Post)))
@@ -261,7 +275,7 @@ module _ {M : Type 1} (𝓤 : URA M) (H : Heap 𝓤) (A : Atoms 𝓤) (W : Given
         stores u goes e is-e told =
             let fields = LL.owed E.the-type E′.the-laws e _ is-e in
             let rl : Room T.the-row (length (u .l)) = room-of (u .l) (u .len) in
-            let here = subst (λ (t : Bool). Stands fs (length ys) n t (shown (u .l)) (u .q)) goes (u .stands) in
+            let here = subst (λ (t : Bool). Stands fs (length ys) n t (kept (u .l)) (u .q)) goes (u .stands) in
             let enough : 64 ≤ length (u .l) = subst (λ (m : ℕ). 64 ≤ m) (sym (u .len)) (stands-needs fs (length ys) n here .0) in
             let within : e .place < length (u .l) = lt-of-lt-of-le (told .1) enough in
             assigns ! (addr ! (from ! (fld ! refl (hop ! (look-in ! 26 (sub ! 0 refl (whole !))) (stop !))))) (from ! (stop !)) (init ! 6 refl (tt, tt)) $
@@ -292,14 +306,14 @@ module _ {M : Type 1} (𝓤 : URA M) (H : Heap 𝓤) (A : Atoms 𝓤) (W : Given
               l = set (u .l) (e .place) (e .row);
               len = length-set (u .l) (e .place) (e .row) ∙ u .len;
               good = fields .0;
-              stands = stands-next fs (length ys) n here e (told .0) (told .2) (shown (set (u .l) (e .place) (e .row))) (shown-stored (u .l) (e .place) (e .row) within);
-            }) (subst (λ (t : Bool). left n (e .progress .goes) (e .progress .at) < left n t (u .q .at)) (sym goes) (stands-less fs (length ys) n here e (told .0) (told .2)))))))))))
+              stands = stands-next fs (length ys) n here e (told .0) (told .2) (told .3) (kept (set (u .l) (e .place) (e .row))) (kept-stored (u .l) (e .place) (e .row) within);
+            }) (subst (λ (t : Bool). left n (e .progress .goes) (e .progress .at) < left n t (u .q .at)) (sym goes) (stands-less fs (length ys) n here e (told .0) (told .2) (told .3)))))))))))
 
         turn-at : (u : Reading) (t : Bool) → u .q .goes ≡ t → Sq W (At u) (runs C Λ En text.turn-1 (anyQ (Turned u)))
         unfolding afterTurn
         turn-at u true goes =
             let rl : Room T.the-row (length (u .l)) = room-of (u .l) (u .len) in
-            let here = subst (λ (t : Bool). Stands fs (length ys) n t (shown (u .l)) (u .q)) goes (u .stands) in
+            let here = subst (λ (t : Bool). Stands fs (length ys) n t (kept (u .l)) (u .q)) goes (u .stands) in
             let y = stands-needs fs (length ys) n here in
             assigns ! (of-opd ! (load ! (from ! (fld ! refl (stop !))) (look-in ! 20 (sub ! 4 refl (whole !))))) (from ! (stop !)) (init ! 14 refl (tt, tt)) $
             rewrite ! 14 (λ (t : Bool). ‵ (fat fullShare tyBool l₈ 0 (vbool t))) goes refl $ stays ! (load ! (from ! (stop !)) (look ! 14 refl)) $
@@ -323,16 +337,19 @@ module _ {M : Type 1} (𝓤 : URA M) (H : Heap 𝓤) (A : Atoms 𝓤) (W : Given
             -- [the table's; its token; file's token; file's; _13; …]
             stores u goes e (subst (λ (us : List Val). Is E.the-row e us) (LL.tells E.the-type E′.the-laws e _ is) is) told))))))
         turn-at u false goes =
-            let over = subst (λ (t : Bool). Stands fs (length ys) n t (shown (u .l)) (u .q)) goes (u .stands) in
+            let over = subst (λ (t : Bool). Stands fs (length ys) n t (kept (u .l)) (u .q)) goes (u .stands) in
             assigns ! (of-opd ! (load ! (from ! (fld ! refl (stop !))) (look-in ! 20 (sub ! 4 refl (whole !))))) (from ! (stop !)) (init ! 14 refl (tt, tt)) $
             rewrite ! 14 (λ (t : Bool). ‵ (fat fullShare tyBool l₈ 0 (vbool t))) goes refl $ leaves-loop ! (load ! (from ! (stop !)) (look ! 14 refl)) $
             exec ! C Λ En text.t-6 (atRet En Post) $
-            assigns ! (of-opd ! (load ! (from ! (stop !)) (look ! 20 refl))) (from ! (stop !)) (init ! 30 refl (LL.lawful P.the-type P′.the-laws 𝓤 H A W .typed (u .q) _ (u .good) .0)) $
+            owned ! P.the-row (Is P.the-row) ((LL.makes P.the-type P′.the-plain) 𝓤 H A) (u .q) _ (u .good) $
+            calls-into W answered.ended (answered.clauses 𝓤 H A mem run) ((tt, tt, tt, (u .q, tt), (P′.lowered (u .q) ∷ [], tt)), tt) 𝓣 ! known-answered (factI 𝓤 (u .q .refusal ≤ 14) (emp 𝓤) (over .numbered)) (EL.lawful O.the-type O′.the-laws 𝓤 H A W tt)
+            (and-then ! (load ! (from ! (stop !)) (look ! 20 refl)) (no-more !)) (record { spot = (O′.mir, l₀, 0); finds = from ! (stop !); writes = λ v ty. init ! 30 refl (ty .0) }) (λ v r _.
+            heard ! (judged r ≡ said (u .q)) (λ e. turn ! 1 $
+            -- [the table's; its token; file's token; file's; _13; …; the result's]
             returns ! (look ! 30 refl) $ forget ! 14 refl $ forget ! 20 refl $ forget ! 22 refl $ forget ! 26 refl $ forget ! 28 refl $ forget ! 30 refl $
-            move ! (30 ∷ 31 ∷ []) $ free1 ! $ move ! (28 ∷ 29 ∷ []) $ free1 ! $ move ! (26 ∷ 27 ∷ []) $ free1 ! $ move ! (24 ∷ 25 ∷ []) $ free1 ! $ move ! (22 ∷ 23 ∷ []) $ free1 ! $ move ! (20 ∷ 21 ∷ []) $ free1 ! $ move ! (18 ∷ 19 ∷ []) $ free1 ! $ move ! (16 ∷ 17 ∷ []) $ free1 ! $ move ! (14 ∷ 15 ∷ []) $ free1 ! $ move ! (12 ∷ 13 ∷ []) $ free1 ! $ move ! (10 ∷ 11 ∷ []) $ free1 ! $ move ! (8 ∷ 9 ∷ []) $ free1 ! $ move ! (6 ∷ 7 ∷ []) $ free1 ! $ move ! (4 ∷ 5 ∷ []) $ free1 ! $ free0 ! $
-            owned ! P.the-row (Is P.the-row) ((LL.makes P.the-type P′.the-plain) 𝓤 H A) (u .q) _ (u .good) $ nothing ! $
-            -- [true; the result's; the table's; its token; file's token; file's]
-            move ! (3 ∷ 0 ∷ []) $ join ! $ move ! (3 ∷ 0 ∷ []) $ join ! $ keep ! (0 ∷ 3 ∷ 2 ∷ 1 ∷ []) $ by ! (exits (u .q) (u .l) (u .len) (stands-done fs (length ys) n over))
+            move ! (30 ∷ 31 ∷ []) $ free1 ! $ move ! (28 ∷ 29 ∷ []) $ free1 ! $ move ! (26 ∷ 27 ∷ []) $ free1 ! $ move ! (24 ∷ 25 ∷ []) $ free1 ! $ move ! (22 ∷ 23 ∷ []) $ free1 ! $ move ! (20 ∷ 21 ∷ []) $ free1 ! $ move ! (18 ∷ 19 ∷ []) $ free1 ! $ move ! (16 ∷ 17 ∷ []) $ free1 ! $ move ! (14 ∷ 15 ∷ []) $ free1 ! $ move ! (12 ∷ 13 ∷ []) $ free1 ! $ move ! (10 ∷ 11 ∷ []) $ free1 ! $ move ! (8 ∷ 9 ∷ []) $ free1 ! $ move ! (6 ∷ 7 ∷ []) $ free1 ! $ move ! (4 ∷ 5 ∷ []) $ free1 ! $ free0 ! $ nothing ! $
+            -- [true; the table's; its token; file's token; file's; the result's]
+            move ! (2 ∷ 0 ∷ []) $ join ! $ move ! (2 ∷ 0 ∷ []) $ join ! $ keep ! (0 ∷ 2 ∷ 1 ∷ 3 ∷ []) $ by ! (exits v r (u .l) (u .len) (stands-done fs (length ys) n over (judged r) e))))
 
         turns : (u : Reading) → Sq W (At u) (runs C Λ En text.turn-1 (anyQ (Turned u)))
         turns u = turn-at u (u .q .goes) refl
@@ -345,7 +362,7 @@ module _ {M : Type 1} (𝓤 : URA M) (H : Heap 𝓤) (A : Atoms 𝓤) (W : Given
       Passed = ‵ (OwnT ys) ∷ ‵ (flft κ qt) ∷ ‵ (flft κf qf) ∷ ‵ OwnF
           ∷ ‵ (froom slice-e l₁₃ 0) ∷ ‵ (fdies slice-e l₁₃) ∷ ‵ (froom ref-e l₁₂ 0) ∷ ‵ (fdies ref-e l₁₂) ∷ ‵ (froom tyUnit l₁₁ 0) ∷ ‵ (fdies tyUnit l₁₁) ∷ ‵ (froom slice-i l₁₀ 0) ∷ ‵ (fdies slice-i l₁₀) ∷ ‵ (froom ref-i l₉ 0) ∷ ‵ (fdies ref-i l₉)
           ∷ ‵ (froom tyBool l₈ 0) ∷ ‵ (fdies tyBool l₈) ∷ ‵ (froom word l₇ 0) ∷ ‵ (fdies word l₇) ∷ ‵ (froom E′.mir l₆ 0) ∷ ‵ (fdies E′.mir l₆) ∷ ‵ (froom P′.mir l₅ 0) ∷ ‵ (fdies P′.mir l₅) ∷ ‵ (froom word l₄ 0) ∷ ‵ (fdies word l₄)
-          ∷ ‵ (froom B′.mir l₃ 0) ∷ ‵ (fdies B′.mir l₃) ∷ ‵ (fat fullShare slice-t l₂ 0 (s (length ys))) ∷ ‵ (fdies slice-t l₂) ∷ ‵ (fat fullShare slice-f l₁ 0 sf) ∷ ‵ (fdies slice-f l₁) ∷ ‵ (froom P′.mir l₀ 0) ∷ ‵ (fdies P′.mir l₀) ∷ []
+          ∷ ‵ (froom B′.mir l₃ 0) ∷ ‵ (fdies B′.mir l₃) ∷ ‵ (fat fullShare slice-t l₂ 0 (s (length ys))) ∷ ‵ (fdies slice-t l₂) ∷ ‵ (fat fullShare slice-f l₁ 0 sf) ∷ ‵ (fdies slice-f l₁) ∷ ‵ (froom O′.mir l₀ 0) ∷ ‵ (fdies O′.mir l₀) ∷ []
 
       body : Sq W Passed (runs C Λ En text.t-1 (atRet En Post))
       body =
@@ -368,7 +385,7 @@ module _ {M : Type 1} (𝓤 : URA M) (H : Heap 𝓤) (A : Atoms 𝓤) (W : Given
           assigns ! (of-opd ! (load ! (from ! (fld ! refl (stop !))) (look-in ! 24 (sub ! 0 refl (whole !))))) (from ! (stop !)) (init ! 22 refl (tt, record { fits = fields .0 .1 })) $
           assigns ! (of-opd ! (load ! (from ! (fld ! refl (stop !))) (look-in ! 24 (sub ! 1 refl (whole !))))) (from ! (stop !)) (init ! 20 refl (LL.lawful P.the-type P′.the-laws 𝓤 H A W .typed (r .progress) _ (fields .1 .0) .0)) $
           forget ! 16 refl $ forget ! 24 refl $
-          into-loop (r .records) (fields .0 .1) (record { q = r .progress; l = ys; len = refl; good = fields .1 .0; stands = stands-first fs (length ys) small r starts (shown ys) }))))))
+          into-loop (r .records) (fields .0 .1) (record { q = r .progress; l = ys; len = refl; good = fields .1 .0; stands = stands-first fs (length ys) small r starts (kept ys) }))))))
 
     walk : ent 𝓤 (onEntry 𝓤 H A read.signature (κf, (κ, tt)) (qf, (qt, tt)) (xf, (x γ ys, tt)) at) (WpFn 𝓤 H C Λ code.function (sf ∷ s (length ys) ∷ []) Post)
     walk =
@@ -383,12 +400,12 @@ module _ {M : Type 1} (𝓤 : URA M) (H : Heap 𝓤) (A : Atoms 𝓤) (W : Given
         move ! (28 ∷ 29 ∷ 30 ∷ 31 ∷ []) $ body l₀ l₁ l₂ l₃ l₄ l₅ l₆ l₇ l₈ l₉ l₁₀ l₁₁ l₁₂ l₁₃))))))))))))))
 
 module _ {M : Type 1} (𝓤 : URA M) (H : Heap 𝓤) (A : Atoms 𝓤) (W : Given 𝓤 H A) (mem : Memory → SProp 𝓤) (run : Routine → Fun 𝓤) (𝓣 : Tables 𝓤 H) (known-begin : Triple 𝓤 (𝓣 .C #verdict·begin) (Begin 𝓤 H A mem run))
-    (known-next : Triple 𝓤 (𝓣 .C #verdict·read-next) (Next 𝓤 H A mem run)) (known-store : Triple 𝓤 (𝓣 .C #signatures·store) (Store 𝓤 H A mem run)) where
+    (known-next : Triple 𝓤 (𝓣 .C #verdict·read-next) (Next 𝓤 H A mem run)) (known-store : Triple 𝓤 (𝓣 .C #signatures·store) (Store 𝓤 H A mem run)) (known-answered : Known 𝓤 H A 𝓣 #verdict·answered answered.ended (answered.clauses 𝓤 H A mem run)) where
   read-walks : Walks 𝓤 H A read.ended stayed (WpFn 𝓤 H (𝓣 .C) (𝓣 .Λ) code.function) (read.clauses 𝓤 H A mem run)
   read-walks = walked 𝓤 H A read.ended stayed (read.clauses 𝓤 H A mem run) (WpFn 𝓤 H (𝓣 .C) (𝓣 .Λ) code.function) (λ κs. (slice-vals, (slice-vals, tt))) (λ κs. (shr-slice-tells (named 0) (κs .0) u8, (mut-slice-tells (named 1) (κs .1 .0) T.the-row, tt)))
       (λ κs qs bounds a g are. via 𝓤 _ (fst∗ 𝓤 _ (emp 𝓤))
       (walk 𝓤 H A W mem run (κs .0) (κs .1 .0) (qs .0) (qs .1 .0) (a .0 .ptr .0) (a .0 .ptr .1) (a .1 .0 .ptr .0) (a .1 .0 .ptr .1) (a .0 .name) (a .1 .0 .name) (a .0 .now) (a .1 .0 .now) (are .0 .0 .1) (are .1 .0 .0 .1)
-      𝓣 (fmOf 𝓤 H (W .laws) 𝓣) known-begin known-next known-store))
+      𝓣 (fmOf 𝓤 H (W .laws) 𝓣) known-begin known-next known-store known-answered))
 
   read-meets : Meets 𝓤 H A read.signature (WpFn 𝓤 H (𝓣 .C) (𝓣 .Λ) code.function) (read.spec 𝓤 H A mem run)
   read-meets = walk-meets 𝓤 H A read.ended stayed W (goes-none-slice 𝓤 H A W 2 (0 ∷ []) tt (plain (λ _. u8)) yes, (goes-slice 𝓤 H A W 2 1 tt (plain (λ _. T.the-row)), tt)) (read.clauses 𝓤 H A mem run) (WpFn 𝓤 H (𝓣 .C) (𝓣 .Λ) code.function) (WpFn-mono 𝓤 H (W .laws) 𝓣 code.function) read-walks
@@ -401,4 +418,5 @@ read-spec 𝓤 H 𝓜 𝓖 𝓡 =
     (read-meets 𝓤 H (𝓖 .A) (givenOf 𝓤 H 𝓜 𝓖) (𝓜 .mem) (𝓡 .run) (tablesOf 𝓤 H 𝓜 (tables 𝓤 H 𝓜 𝓡 code.env))
     (cited 𝓤 H (Begin 𝓤 H (𝓖 .A) (𝓜 .mem) (𝓡 .run)) 𝓜 𝓡 code.env #verdict·begin begin-def.routine code.calls-verdict·begin (begin-thm.met 𝓤 H 𝓜 𝓖 𝓡))
     (cited 𝓤 H (Next 𝓤 H (𝓖 .A) (𝓜 .mem) (𝓡 .run)) 𝓜 𝓡 code.env #verdict·read-next next-def.routine code.calls-verdict·read-next (next-thm.met 𝓤 H 𝓜 𝓖 𝓡))
-    (cited 𝓤 H (Store 𝓤 H (𝓖 .A) (𝓜 .mem) (𝓡 .run)) 𝓜 𝓡 code.env #signatures·store store-def.routine code.calls-signatures·store (store-thm.met 𝓤 H 𝓜 𝓖 𝓡)))
+    (cited 𝓤 H (Store 𝓤 H (𝓖 .A) (𝓜 .mem) (𝓡 .run)) 𝓜 𝓡 code.env #signatures·store store-def.routine code.calls-signatures·store (store-thm.met 𝓤 H 𝓜 𝓖 𝓡))
+    (cited 𝓤 H (tripleOf 𝓤 H (𝓖 .A) answered.signature (answered.spec 𝓤 H (𝓖 .A) (𝓜 .mem) (𝓡 .run))) 𝓜 𝓡 code.env #verdict·answered answered-def.routine code.calls-verdict·answered (answered-thm.met 𝓤 H 𝓜 𝓖 𝓡)))
