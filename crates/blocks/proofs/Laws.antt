@@ -6,7 +6,8 @@ use mathlib.Core.List.{List}
 use mathlib.Core.Bool.{Bool, true, false}
 use native.Mathlib.Omega.{arith}
 use lib.Dec.{eqb}
-use Rattle.answers.specs.Answer.{accepted, refused}
+use Rattle.answers.specs.Fault as Fault
+use Rattle.answers.specs.Answer.{accepted, refused, refusal}
 use Rattle.numbers.specs.Tests.{between}
 use Rattle.blocks.specs.Block.{count-allowed, check-right, header-right}
 use Rattle.blocks.specs.File.{block-count, block, record-count, sound-from}
@@ -26,12 +27,12 @@ module _ (file : List ℕ) (b : ℕ) where
   sound-end p = rw (left-zero (block-count file) p)
 
   module _ (p : b < block-count file) where
-    pub sound-check : check-right (block file b) ≡ false → sound-from file (block-count file - b) b ≡ refused 2 b
+    pub sound-check : check-right (block file b) ≡ false → sound-from file (block-count file - b) b ≡ refused (refusal Fault.Check b)
     unfolding sound-from
     sound-check q = rw (left-suc (block-count file) p, q)
 
     module _ (q : check-right (block file b) ≡ true) where
-      pub sound-header : header-right (block file b) b (eqb (b + 1) (block-count file)) ≡ false → sound-from file (block-count file - b) b ≡ refused 3 b
+      pub sound-header : header-right (block file b) b (eqb (b + 1) (block-count file)) ≡ false → sound-from file (block-count file - b) b ≡ refused (refusal Fault.Header b)
       unfolding sound-from
       sound-header r = rw (left-suc (block-count file) p, q, r)
 

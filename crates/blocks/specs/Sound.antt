@@ -1,7 +1,7 @@
 -- What an accepted file's blocks are, each by itself: laws about `sound`, both ways.
 -- Assumes nothing.
 use Prim.Native.Nat.{ℕ, zero, suc, _+_, _-_, _*_, _≤_, _<_}
-use mathlib.Core.Path.{_≡_, refl, _∙_}
+use mathlib.Core.Path.{_≡_, refl, sym, _∙_}
 use mathlib.Core.List.{List}
 use mathlib.Core.Bool.{Bool, true, false, cond, _&&_, _||_}
 use native.Mathlib.Omega.{arith}
@@ -10,7 +10,10 @@ use lib.ListN.{length, getD, drop}
 use lib.Seq.{getD-take, getD-drop}
 use lib.Dec.{ltb, eqb}
 use borrow.Author.Tests.{ltb-true, eqb-true, eq-eqb}
-use Rattle.answers.specs.Answer.{Answer, accepted, refused, then}
+use Rattle.answers.specs.declared.Refusal.{Refusal}
+use Rattle.answers.specs.Fault as Fault
+use Rattle.answers.specs.Answer.{Answer, accepted, refused, then, refusal, Sure}
+use Rattle.answers.specs.Once.{apart}
 use Rattle.numbers.specs.Numbers.{number, all-zero}
 use Rattle.numbers.specs.Tests.{Between, and-both, between, between-back}
 use Rattle.blocks.specs.Block.{part, count-allowed, mark, check-right, header-right}
@@ -66,15 +69,15 @@ module _ (file : List ℕ) where
     pub right : (b : ℕ) → b < block-count file → Right b
 
   -- One turn that goes on.
-  passed : (c h : Bool) (x : Answer ℕ) (b r : ℕ) → cond c (cond h x (refused 3 b)) (refused 2 b) ≡ accepted r → (c ≡ true) × (h ≡ true) × (x ≡ accepted r)
-  passed true true x b r e = (refl, refl, e)
-  passed true false x b r e = absurd (let z : _≡_ {A = ℕ} 0 1 = cc in omega arith)
-  passed false h x b r e = absurd (let z : _≡_ {A = ℕ} 0 1 = cc in omega arith)
+  passed : (c h : Bool) (x : Answer ℕ) (p q : Refusal) (r : ℕ) → cond c (cond h x (refused p)) (refused q) ≡ accepted r → (c ≡ true) × (h ≡ true) × (x ≡ accepted r)
+  passed true true x p q r e = (refl, refl, e)
+  passed true false x p q r e = absurd (apart (sym e))
+  passed false h x p q r e = absurd (apart (sym e))
 
   turn : (left b r : ℕ) → sound-from file (suc left) b ≡ accepted r → Right b × (sound-from file left (b + 1) ≡ accepted r)
   unfolding sound-from
   turn left b r e =
-      let q = passed (check-right (block file b)) (header-right (block file b) b (eqb (b + 1) (block-count file))) (sound-from file left (b + 1)) b r e in
+      let q = passed (check-right (block file b)) (header-right (block file b) b (eqb (b + 1) (block-count file))) (sound-from file left (b + 1)) _ _ r e in
       (record { check = q .0; head = header _ _ _ (q .1) }, q .2)
 
   right-from : (left b r : ℕ) → sound-from file left b ≡ accepted r → (j : ℕ) → j < left → Right (b + j)
@@ -98,14 +101,14 @@ module _ (file : List ℕ) where
       rw (t .check, header-back _ _ _ (t .head)) (from-right left (b + 1) i)
 
   -- Past the test of the length.
-  begun : (l : Bool) (x : Answer ℕ) (r : ℕ) → cond l x (refused 1 0) ≡ accepted r → (l ≡ true) × (x ≡ accepted r)
-  begun true x r e = (refl, e)
-  begun false x r e = absurd (let z : _≡_ {A = ℕ} 0 1 = cc in omega arith)
+  begun : (l : Bool) (x : Answer ℕ) (p : Refusal) (r : ℕ) → cond l x (refused p) ≡ accepted r → (l ≡ true) × (x ≡ accepted r)
+  begun true x p r e = (refl, e)
+  begun false x p r e = absurd (apart (sym e))
 
   pub sound-blocks : (r : ℕ) → sound file ≡ accepted r → Sound
   unfolding sound
   sound-blocks r e =
-      let q = begun (length-allowed (length file)) (sound-from file (block-count file) 0) r e in
+      let q = begun (length-allowed (length file)) (sound-from file (block-count file) 0) _ r e in
       record {
         allowed = between 512 65536 _ _ (q .0);
         right = λ b p. rw (zero-add b) at (right-from (block-count file) 0 r (q .1) b p);
@@ -113,13 +116,32 @@ module _ (file : List ℕ) where
 
   pub sound-count : (r : ℕ) → sound file ≡ accepted r → r ≡ record-count file
   unfolding sound
-  sound-count r e = count-from (block-count file) 0 r (begun (length-allowed (length file)) (sound-from file (block-count file) 0) r e .1)
+  sound-count r e = count-from (block-count file) 0 r (begun (length-allowed (length file)) (sound-from file (block-count file) 0) _ r e .1)
 
   pub sound-back : Sound → sound file ≡ accepted (record-count file)
   unfolding sound
   sound-back s =
       rw (between-back 512 65536 (length file) _ (s .allowed))
       (from-right (block-count file) 0 (λ j p. rw (zero-add j) (s .right j p)))
+
+  -- A refusal has some refusal's number.
+  from-sure : (left b : ℕ) → Sure (sound-from file left b)
+  unfolding sound-from
+  from-sure zero b = tt
+  from-sure (suc left) b = go (from-sure left (b + 1)) (check-right (block file b)) (header-right (block file b) b (eqb (b + 1) (block-count file)))
+    where
+      go : Sure (sound-from file left (b + 1)) → (c h : Bool) → Sure (cond c (cond h (sound-from file left (b + 1)) (refused (refusal Fault.Header b))) (refused (refusal Fault.Check b)))
+      go more true true = more
+      go more true false = omega arith
+      go more false h = omega arith
+
+  pub sound-sure : Sure (sound file)
+  unfolding sound
+  sound-sure = go (length-allowed (length file))
+    where
+      go : (l : Bool) → Sure (cond l (sound-from file (block-count file) 0) (refused (refusal Fault.Length 0)))
+      go true = from-sure (block-count file) 0
+      go false = omega arith
 
   -- Byte i of block b.
   pub in-block : (b i : ℕ) → i < 512 → getD (block file b) i 0 ≡ getD file (512 * b + i) 0
@@ -137,12 +159,12 @@ module _ (file : List ℕ) where
 
   -- A record that is there stands within the file.
   answered : (i : ℕ) (a : Answer ℕ) → then a (present i) ≡ accepted tt → (n : ℕ) × (a ≡ accepted n) × (i < n)
-  answered i (refused n p) e = absurd (let z : _≡_ {A = ℕ} 0 1 = cc in omega arith)
+  answered i (refused r) e = absurd (apart (sym e))
   answered i (accepted n) e = go (ltb i n) refl e
     where
-      go : (t : Bool) → ltb i n ≡ t → _≡_ {A = Answer Unit} (cond t (accepted tt) (refused 14 i)) (accepted tt) → (m : ℕ) × (_≡_ {A = Answer ℕ} (accepted n) (accepted m)) × (i < m)
+      go : (t : Bool) → ltb i n ≡ t → _≡_ {A = Answer Unit} (cond t (accepted tt) (refused (refusal Fault.Absent i))) (accepted tt) → (m : ℕ) × (_≡_ {A = Answer ℕ} (accepted n) (accepted m)) × (i < m)
       go true q e = (n, refl, ltb-true i n q)
-      go false q e = absurd (let z : _≡_ {A = ℕ} 0 1 = cc in omega arith)
+      go false q e = absurd (apart (sym e))
 
   pub record-within : (i : ℕ) → record-answer file i ≡ accepted tt → record-place i + 16 ≤ length file
   unfolding record-answer

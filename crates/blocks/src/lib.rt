@@ -1,8 +1,8 @@
 // The blocks of a file: its length, their checks and headers; and a record asked for by its number.
 use answers::Counted;
-use answers::Fault;
 use answers::Lookup;
 use answers::Refusal;
+use answers::fault;
 ghost use mathlib.Core.Path.{_≡_};
 ghost use Prim.Native.Nat.{_+_, _*_, _/_, _<_};
 ghost use lib.ListN.{length};
@@ -81,12 +81,6 @@ fn length_allowed(len: usize) -> bool
     (512 <= len) & (len <= 65536) & (len % 512 == 0)
 }
 
-fn refused(fault: Fault, position: usize) -> Counted
-    ensures { λ r. ⌜ r ≡ Counted.Refused (record { fault = fault; position = position }) ⌝ }
-{
-    Counted::Refused(Refusal { fault, position })
-}
-
 // The blocks in order, the check of each before the rest of it.
 fn sound_blocks(file: &[u8]) -> Counted
     requires { ⌜ Allowed (length (now file)) ⌝ }
@@ -97,10 +91,10 @@ fn sound_blocks(file: &[u8]) -> Counted
     while b < n {
         let block = &file[512 * b..512 * b + 512];
         if !check_right(block) {
-            return refused(Fault::Check, b);
+            return Counted::Refused(Refusal::at(fault::CHECK, b));
         }
         if !header_right(block, b, b + 1 == n) {
-            return refused(Fault::Header, b);
+            return Counted::Refused(Refusal::at(fault::HEADER, b));
         }
         b += 1;
     }
@@ -114,7 +108,7 @@ pub fn sound(file: &[u8]) -> Counted
     if length_allowed(file.len()) {
         return sound_blocks(file);
     }
-    refused(Fault::Length, 0)
+    Counted::Refused(Refusal::at(fault::LENGTH, 0))
 }
 
 // Whether the file holds a record with this number, or refusal 1, 2, 3 or 14.
@@ -126,10 +120,7 @@ pub fn record_answer(file: &[u8], number: usize) -> Lookup
             if number < n {
                 Lookup::Present
             } else {
-                Lookup::Refused(Refusal {
-                    fault: Fault::Absent,
-                    position: number,
-                })
+                Lookup::Refused(Refusal::at(fault::ABSENT, number))
             }
         }
         Counted::Refused(r) => Lookup::Refused(r),

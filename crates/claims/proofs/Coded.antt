@@ -8,7 +8,6 @@ use lib.ListN.{length, take, drop}
 use Rattle.entry.specs.Records.{Record, wrong}
 use Rattle.entry.specs.Entered.{nothing}
 use Rattle.entry.specs.Asks.{In-range}
-use Rattle.entry.specs.Answers.{accepted}
 use Rattle.reading.specs.Proofs.Ranges.{All-in-range}
 use Rattle.numbers.specs.Numbers.{Bytes}
 use Rattle.numbers.proofs.Bytes as Bytes

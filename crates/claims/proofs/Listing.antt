@@ -10,7 +10,10 @@ use lib.ListN.{length, getD, drop}
 use lib.Seq.{drop-at}
 use lib.Dec.{ltb, leb}
 use borrow.Author.Tests.{lt-ltb, le-ltb, ltb-true, ltb-false, le-leb, leb-true}
-use Rattle.answers.specs.Answer.{Answer, accepted, refused, then, Counts}
+use Rattle.answers.specs.declared.Refusal.{Refusal}
+use Rattle.answers.specs.Fault as Fault
+use Rattle.answers.specs.Answer.{Answer, accepted, refused, then, refusal, left, Counts}
+use Rattle.answers.specs.Once.{apart, one-refusal}
 use Rattle.numbers.specs.Numbers.{number, bytes}
 use Rattle.numbers.specs.Tests.{and-both}
 use Rattle.numbers.proofs.Bytes.{number-bytes}
@@ -22,7 +25,7 @@ use Rattle.timeline.specs.Proofs.Rows.{cycle-below}
 use Rattle.verdict.specs.Judgement.{judgement}
 use Rattle.groups.specs.Groups.{design-of}
 use Rattle.expansion.specs.Bytes.{row-bytes, rows-bytes}
-use Rattle.listing.specs.Answer.{fits, flat-answer, list-answer, left, flat-left, list-left}
+use Rattle.listing.specs.Answer.{fits, flat-answer, list-answer, flat-left, list-left}
 use Rattle.claims.specs.File.{said-design}
 use Rattle.claims.specs.Starts.{read-start, read-starts, Tell-the-starts}
 use Rattle.claims.proofs.After.{same-design, component-count, after-accepted, after-refused}
@@ -89,32 +92,32 @@ module _ (D : Design) (asked room : ℕ) where
   flat-accepted n = (to (ltb asked (length D)) refl test refl, λ h. rw (lt-ltb asked (length D) (h .0), fit-back (h .1), h .2))
     where
       to : (t : Bool) → ltb asked (length D) ≡ t → (u : Bool) → test ≡ u
-          → _≡_ {A = Answer ℕ} (cond t (cond u (accepted (row-count D asked)) (refused 13 0)) (refused 14 asked)) (accepted n) → (asked < length D) × Fits × (row-count D asked ≡ n)
+          → _≡_ {A = Answer ℕ} (cond t (cond u (accepted (row-count D asked)) (refused (refusal Fault.Room 0))) (refused (refusal Fault.Absent asked))) (accepted n) → (asked < length D) × Fits × (row-count D asked ≡ n)
       to true e true g h = (ltb-true asked (length D) e, fit g, cc)
-      to true e false g h = absurd (let z : _≡_ {A = ℕ} 0 1 = cc in omega arith)
-      to false e u g h = absurd (let z : _≡_ {A = ℕ} 0 1 = cc in omega arith)
+      to true e false g h = absurd (apart (sym h))
+      to false e u g h = absurd (apart (sym h))
 
   -- "Then 14, then every other 13."
-  abbrev pub Cannot : (n p : ℕ) → Type 0
-  Cannot n p = ((n ≡ 14) × (p ≡ asked) × (length D ≤ asked)) ⊎ ((n ≡ 13) × (p ≡ 0) × (asked < length D) × ¬ Fits)
+  abbrev pub Cannot : Refusal → Type 0
+  Cannot r = ((r ≡ refusal Fault.Absent asked) × (length D ≤ asked)) ⊎ ((r ≡ refusal Fault.Room 0) × (asked < length D) × ¬ Fits)
 
-  flat-refused : (n p : ℕ) → (flat-answer D asked room ≡ refused n p) ↔ Cannot n p
+  flat-refused : (r : Refusal) → (flat-answer D asked room ≡ refused r) ↔ Cannot r
   unfolding flat-answer
-  flat-refused n p = (to (ltb asked (length D)) refl test refl, from test refl)
+  flat-refused r = (to (ltb asked (length D)) refl test refl, from test refl)
     where
       no : {t : Bool} → t ≡ true → t ≡ false → ⊥
       no a b = let z : _≡_ {A = Bool} true false = sym a ∙ b in let y : _≡_ {A = ℕ} 0 1 = cc in omega arith
 
       to : (t : Bool) → ltb asked (length D) ≡ t → (u : Bool) → test ≡ u
-          → _≡_ {A = Answer ℕ} (cond t (cond u (accepted (row-count D asked)) (refused 13 0)) (refused 14 asked)) (refused n p) → Cannot n p
-      to true e true g h = absurd (let z : _≡_ {A = ℕ} 0 1 = cc in omega arith)
-      to true e false g h = inr (cc, cc, ltb-true asked (length D) e, λ k. no (fit-back k) g)
-      to false e u g h = inl (cc, cc, ltb-false asked (length D) e)
+          → _≡_ {A = Answer ℕ} (cond t (cond u (accepted (row-count D asked)) (refused (refusal Fault.Room 0))) (refused (refusal Fault.Absent asked))) (refused r) → Cannot r
+      to true e true g h = absurd (apart h)
+      to true e false g h = inr (sym (one-refusal h), ltb-true asked (length D) e, λ k. no (fit-back k) g)
+      to false e u g h = inl (sym (one-refusal h), ltb-false asked (length D) e)
 
-      from : (u : Bool) → test ≡ u → Cannot n p → _≡_ {A = Answer ℕ} (cond (ltb asked (length D)) (cond u (accepted (row-count D asked)) (refused 13 0)) (refused 14 asked)) (refused n p)
-      from u g (inl h) = rw (le-ltb asked (length D) (h .2), h .0, h .1)
-      from true g (inr h) = absurd (h .3 (fit g))
-      from false g (inr h) = rw (lt-ltb asked (length D) (h .2), h .0, h .1)
+      from : (u : Bool) → test ≡ u → Cannot r → _≡_ {A = Answer ℕ} (cond (ltb asked (length D)) (cond u (accepted (row-count D asked)) (refused (refusal Fault.Room 0))) (refused (refusal Fault.Absent asked))) (refused r)
+      from u g (inl h) = rw (le-ltb asked (length D) (h .1), h .0)
+      from true g (inr h) = absurd (h .2 (fit g))
+      from false g (inr h) = rw (lt-ltb asked (length D) (h .1), h .0)
 
 module _ (file : List ℕ) (lent asked room : ℕ) where
   -- A component is listed exactly when the file is accepted, the component is there, and its rows and units are within the limits and have room.
@@ -135,26 +138,26 @@ module _ (file : List ℕ) (lent asked room : ℕ) where
       )
 
   -- "Then 14, then every other 13": the file is accepted, and the component is absent; or a limit is passed or the rows have no room.
-  pub record Accepted-but (n p : ℕ) : Type 0 where
+  pub record Accepted-but (r : Refusal) : Type 0 where
     pub counts : Counts
     pub is-accepted : judgement file lent ≡ accepted counts
-    pub because : Cannot (said-design file) asked room n p
+    pub because : Cannot (said-design file) asked room r
 
-  pub refused-exactly : (n p : ℕ) → (list-answer file lent asked room ≡ refused n p) ↔ (Main.First file lent n p ⊎ Accepted-but n p)
+  pub refused-exactly : (r : Refusal) → (list-answer file lent asked room ≡ refused r) ↔ (Main.First file lent r ⊎ Accepted-but r)
   unfolding list-answer
-  refused-exactly n p = (λ e. to (after .0 e), λ h. after .1 (from h))
+  refused-exactly r = (λ e. to (after .0 e), λ h. after .1 (from h))
     where
-      after : (then (judgement file lent) (λ (k : Counts). flat-answer (design-of file (k .records)) asked room) ≡ refused n p)
-          ↔ (Main.First file lent n p ⊎ ((k : Counts) × (judgement file lent ≡ accepted k) × (flat-answer (said-design file) asked room ≡ refused n p)))
-      after = after-refused (λ D. flat-answer D asked room) file lent n p
+      after : (then (judgement file lent) (λ (k : Counts). flat-answer (design-of file (k .records)) asked room) ≡ refused r)
+          ↔ (Main.First file lent r ⊎ ((k : Counts) × (judgement file lent ≡ accepted k) × (flat-answer (said-design file) asked room ≡ refused r)))
+      after = after-refused (λ D. flat-answer D asked room) file lent r
 
-      to : Main.First file lent n p ⊎ ((k : Counts) × (judgement file lent ≡ accepted k) × (flat-answer (said-design file) asked room ≡ refused n p)) → Main.First file lent n p ⊎ Accepted-but n p
+      to : Main.First file lent r ⊎ ((k : Counts) × (judgement file lent ≡ accepted k) × (flat-answer (said-design file) asked room ≡ refused r)) → Main.First file lent r ⊎ Accepted-but r
       to (inl h) = inl h
-      to (inr (k, a, g)) = inr (record { counts = k; is-accepted = a; because = (flat-refused (said-design file) asked room n p) .0 g })
+      to (inr (k, a, g)) = inr (record { counts = k; is-accepted = a; because = (flat-refused (said-design file) asked room r) .0 g })
 
-      from : Main.First file lent n p ⊎ Accepted-but n p → Main.First file lent n p ⊎ ((k : Counts) × (judgement file lent ≡ accepted k) × (flat-answer (said-design file) asked room ≡ refused n p))
+      from : Main.First file lent r ⊎ Accepted-but r → Main.First file lent r ⊎ ((k : Counts) × (judgement file lent ≡ accepted k) × (flat-answer (said-design file) asked room ≡ refused r))
       from (inl h) = inl h
-      from (inr h) = inr (h .counts, h .is-accepted, (flat-refused (said-design file) asked room n p) .1 (h .because))
+      from (inr h) = inr (h .counts, h .is-accepted, (flat-refused (said-design file) asked room r) .1 (h .because))
 
 -- The rows are read back from the bytes that were left, and tell every unit start of demand 3.
 module _ (file : List ℕ) (lent asked : ℕ) (old : List ℕ) (n : ℕ) (h : list-answer file lent asked (length old) ≡ accepted n) where
@@ -163,7 +166,7 @@ module _ (file : List ℕ) (lent asked : ℕ) (old : List ℕ) (n : ℕ) (h : li
   starts-read =
       let g = (listed-exactly file lent asked (length old) n) .0 h in
       let k = g .counts in
-      let d = Main.its-design file lent (k .components) (k .records) (g .is-accepted) in
+      let d = Main.its-design file lent k (g .is-accepted) in
       let there = g .present in
       let e = (flat-accepted (said-design file) asked (length old) n) .1 (there, g .within, g .count) in
       let c : length (rows (said-design file) asked) ≡ n = (flat-listing (said-design file) (d .0) asked there (λ t. t ≡ 0)) .row-total ∙ g .count in
@@ -175,7 +178,7 @@ module _ (file : List ℕ) (lent asked : ℕ) (old : List ℕ) (n : ℕ) (h : li
       let g = (listed-exactly file lent asked (length old) n) .0 h in
       let k = g .counts in
       let there = rw (component-count file lent k (g .is-accepted)) at (g .present) in
-      let L = Main.listed file lent (k .components) (k .records) (g .is-accepted) asked there S in
+      let L = Main.listed file lent k (g .is-accepted) asked there S in
       rw starts-read (record {
         total = L .row-total;
         use-has-row = λ u. rw (L .row-total) (L .use-has-row u);

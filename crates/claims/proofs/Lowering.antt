@@ -9,7 +9,10 @@ use native.Mathlib.Omega.{arith}
 use lib.ListN.{length, drop}
 use lib.Dec.{ltb}
 use borrow.Author.Tests.{lt-ltb, le-ltb, ltb-true, ltb-false}
-use Rattle.answers.specs.Answer.{Answer, accepted, refused, then, Counts}
+use Rattle.answers.specs.declared.Refusal.{Refusal}
+use Rattle.answers.specs.Fault as Fault
+use Rattle.answers.specs.Answer.{Answer, accepted, refused, then, refusal, Counts}
+use Rattle.answers.specs.Once.{apart, one-refusal}
 use Rattle.numbers.specs.Tests.{and-both}
 use Rattle.timeline.specs.Design.{Design, leaf, built, class}
 use Rattle.reading.specs.Tests.{is-built}
@@ -46,30 +49,30 @@ module _ (D : Design) (c room : ℕ) where
   component-lowered l = (to (ltb c (length D) && is-built (class D c)) refl (ltb room size) refl, λ h. rw (found-back (h .0), ← h .2) (rw (le-ltb room size (rw (h .2) (h .1)))))
     where
       to : (t : Bool) → (ltb c (length D) && is-built (class D c)) ≡ t → (u : Bool) → ltb room size ≡ u
-          → cond t (cond u (refused 13 0) (accepted (rows D c))) (refused 14 c) ≡ accepted l → Can D c × (16 * length l ≤ room) × (rows D c ≡ l)
-      to true e true g h = absurd (let z : _≡_ {A = ℕ} 0 1 = cc in omega arith)
+          → cond t (cond u (refused (refusal Fault.Room 0)) (accepted (rows D c))) (refused (refusal Fault.Absent c)) ≡ accepted l → Can D c × (16 * length l ≤ room) × (rows D c ≡ l)
+      to true e true g h = absurd (apart (sym h))
       to true e false g h = let s : rows D c ≡ l = cc in (found e, rw (← s) (ltb-false room size g), s)
-      to false e u g h = absurd (let z : _≡_ {A = ℕ} 0 1 = cc in omega arith)
+      to false e u g h = absurd (apart (sym h))
 
-  abbrev pub Cannot : (n p : ℕ) → Type 0
-  Cannot n p = ((n ≡ 14) × (p ≡ c) × ¬ Can D c) ⊎ ((n ≡ 13) × (p ≡ 0) × Can D c × (room < size))
+  abbrev pub Cannot : Refusal → Type 0
+  Cannot r = ((r ≡ refusal Fault.Absent c) × ¬ Can D c) ⊎ ((r ≡ refusal Fault.Room 0) × Can D c × (room < size))
 
-  component-refused : (n p : ℕ) → (component-rows D c room ≡ refused n p) ↔ Cannot n p
+  component-refused : (r : Refusal) → (component-rows D c room ≡ refused r) ↔ Cannot r
   unfolding component-rows
-  component-refused n p = (to (ltb c (length D) && is-built (class D c)) refl (ltb room size) refl, from (ltb c (length D) && is-built (class D c)) refl)
+  component-refused r = (to (ltb c (length D) && is-built (class D c)) refl (ltb room size) refl, from (ltb c (length D) && is-built (class D c)) refl)
     where
       to : (t : Bool) → (ltb c (length D) && is-built (class D c)) ≡ t → (u : Bool) → ltb room size ≡ u
-          → _≡_ {A = Answer (List Row)} (cond t (cond u (refused 13 0) (accepted (rows D c))) (refused 14 c)) (refused n p) → Cannot n p
-      to true e true g h = inr (cc, cc, found e, ltb-true room size g)
-      to true e false g h = absurd (let z : _≡_ {A = ℕ} 0 1 = cc in omega arith)
-      to false e u g h = inl (cc, cc, λ k. let z : _≡_ {A = Bool} true false = sym (found-back k) ∙ e in absurd (let y : _≡_ {A = ℕ} 0 1 = cc in omega arith))
+          → _≡_ {A = Answer (List Row)} (cond t (cond u (refused (refusal Fault.Room 0)) (accepted (rows D c))) (refused (refusal Fault.Absent c))) (refused r) → Cannot r
+      to true e true g h = inr (sym (one-refusal h), found e, ltb-true room size g)
+      to true e false g h = absurd (apart h)
+      to false e u g h = inl (sym (one-refusal h), λ k. let z : _≡_ {A = Bool} true false = sym (found-back k) ∙ e in absurd (let y : _≡_ {A = ℕ} 0 1 = cc in omega arith))
 
-      from : (t : Bool) → (ltb c (length D) && is-built (class D c)) ≡ t → Cannot n p
-          → _≡_ {A = Answer (List Row)} (cond t (cond (ltb room size) (refused 13 0) (accepted (rows D c))) (refused 14 c)) (refused n p)
-      from true e (inl h) = absurd (h .2 (found e))
-      from false e (inl h) = rw (h .0, h .1)
-      from true e (inr h) = rw (lt-ltb room size (h .3), h .0, h .1)
-      from false e (inr h) = absurd (let z : _≡_ {A = Bool} true false = sym (found-back (h .2)) ∙ e in let y : _≡_ {A = ℕ} 0 1 = cc in omega arith)
+      from : (t : Bool) → (ltb c (length D) && is-built (class D c)) ≡ t → Cannot r
+          → _≡_ {A = Answer (List Row)} (cond t (cond (ltb room size) (refused (refusal Fault.Room 0)) (accepted (rows D c))) (refused (refusal Fault.Absent c))) (refused r)
+      from true e (inl h) = absurd (h .1 (found e))
+      from false e (inl h) = rw (h .0)
+      from true e (inr h) = rw (lt-ltb room size (h .2), h .0)
+      from false e (inr h) = absurd (let z : _≡_ {A = Bool} true false = sym (found-back (h .1)) ∙ e in let y : _≡_ {A = ℕ} 0 1 = cc in omega arith)
 
 module _ (file : List ℕ) (lent asked room : ℕ) where
   -- A component is lowered exactly when the file is accepted, the component is there and built, and its rows have room.
@@ -90,26 +93,26 @@ module _ (file : List ℕ) (lent asked room : ℕ) where
       )
 
   -- "Then 14, then every other 13": the file is accepted, and the component is absent or a leaf; or its rows have no room.
-  pub record Accepted-but (n p : ℕ) : Type 0 where
+  pub record Accepted-but (r : Refusal) : Type 0 where
     pub counts : Counts
     pub is-accepted : judgement file lent ≡ accepted counts
-    pub because : Cannot (said-design file) asked room n p
+    pub because : Cannot (said-design file) asked room r
 
-  pub refused-exactly : (n p : ℕ) → (lowered file lent asked room ≡ refused n p) ↔ (Main.First file lent n p ⊎ Accepted-but n p)
+  pub refused-exactly : (r : Refusal) → (lowered file lent asked room ≡ refused r) ↔ (Main.First file lent r ⊎ Accepted-but r)
   unfolding lowered
-  refused-exactly n p = (λ e. to (after .0 e), λ h. after .1 (from h))
+  refused-exactly r = (λ e. to (after .0 e), λ h. after .1 (from h))
     where
-      after : (then (judgement file lent) (λ (k : Counts). component-rows (design-of file (k .records)) asked room) ≡ refused n p)
-          ↔ (Main.First file lent n p ⊎ ((k : Counts) × (judgement file lent ≡ accepted k) × (component-rows (said-design file) asked room ≡ refused n p)))
-      after = after-refused (λ D. component-rows D asked room) file lent n p
+      after : (then (judgement file lent) (λ (k : Counts). component-rows (design-of file (k .records)) asked room) ≡ refused r)
+          ↔ (Main.First file lent r ⊎ ((k : Counts) × (judgement file lent ≡ accepted k) × (component-rows (said-design file) asked room ≡ refused r)))
+      after = after-refused (λ D. component-rows D asked room) file lent r
 
-      to : Main.First file lent n p ⊎ ((k : Counts) × (judgement file lent ≡ accepted k) × (component-rows (said-design file) asked room ≡ refused n p)) → Main.First file lent n p ⊎ Accepted-but n p
+      to : Main.First file lent r ⊎ ((k : Counts) × (judgement file lent ≡ accepted k) × (component-rows (said-design file) asked room ≡ refused r)) → Main.First file lent r ⊎ Accepted-but r
       to (inl h) = inl h
-      to (inr (k, a, g)) = inr (record { counts = k; is-accepted = a; because = (component-refused (said-design file) asked room n p) .0 g })
+      to (inr (k, a, g)) = inr (record { counts = k; is-accepted = a; because = (component-refused (said-design file) asked room r) .0 g })
 
-      from : Main.First file lent n p ⊎ Accepted-but n p → Main.First file lent n p ⊎ ((k : Counts) × (judgement file lent ≡ accepted k) × (component-rows (said-design file) asked room ≡ refused n p))
+      from : Main.First file lent r ⊎ Accepted-but r → Main.First file lent r ⊎ ((k : Counts) × (judgement file lent ≡ accepted k) × (component-rows (said-design file) asked room ≡ refused r))
       from (inl h) = inl h
-      from (inr h) = inr (h .counts, h .is-accepted, (component-refused (said-design file) asked room n p) .1 (h .because))
+      from (inr h) = inr (h .counts, h .is-accepted, (component-refused (said-design file) asked room r) .1 (h .because))
 
 -- The rows are read back from the bytes that were left, and do exactly what the timetable does.
 module _ (file : List ℕ) (lent asked : ℕ) (old : List ℕ) (l : List Row) (h : lowered file lent asked (length old) ≡ accepted l) where
@@ -120,5 +123,5 @@ module _ (file : List ℕ) (lent asked : ℕ) (old : List ℕ) (l : List Row) (h
   rows-do S =
       let g = (lowered-exactly file lent asked (length old) l) .0 h in
       let there = rw (component-count file lent (g .counts) (g .is-accepted)) at (g .can .0) in
-      let w = Main.lowered file lent (g .counts .components) (g .counts .records) (g .is-accepted) asked there (g .can .1) S in
+      let w = Main.lowered file lent (g .counts) (g .is-accepted) asked there (g .can .1) S in
       rw rows-read (record { drives = w .drives; starts = w .starts; connects = w .connects; one-driver = w .one-driver })

@@ -1,24 +1,24 @@
 -- An answer that follows another: the refusal of the first, or what comes after its acceptance.
 -- Assumes nothing.
-use Prim.Native.Nat.{ℕ}
-use mathlib.Core.Path.{_≡_, refl, ap, _∙_}
+use mathlib.Core.Path.{_≡_, refl, ap, sym, _∙_}
 use mathlib.Core.Logic.{_↔_, _⊎_, inl, inr}
-use native.Mathlib.Omega.{arith}
+use Rattle.answers.specs.declared.Refusal.{Refusal}
 use Rattle.answers.specs.Answer.{Answer, accepted, refused, then}
+use Rattle.answers.specs.Once.{apart, one-refusal}
 
 module _ {A B : Type 0} (f : A → Answer B) where
   pub then-accepted : (a : Answer A) (b : B) → (then a f ≡ accepted b) ↔ ((k : A) × (a ≡ accepted k) × (f k ≡ accepted b))
   then-accepted (accepted k) b = (λ e. (k, refl, e), λ h. ap (λ (a : Answer A). then a f) (h .1) ∙ h .2)
-  then-accepted (refused n p) b = (λ e. absurd (let z : _≡_ {A = ℕ} 0 1 = cc in omega arith), λ h. ap (λ (a : Answer A). then a f) (h .1) ∙ h .2)
+  then-accepted (refused r) b = (λ e. absurd (apart (sym e)), λ h. ap (λ (a : Answer A). then a f) (h .1) ∙ h .2)
 
-  pub then-refused : (a : Answer A) (n p : ℕ) → (then a f ≡ refused n p) ↔ ((a ≡ refused n p) ⊎ ((k : A) × (a ≡ accepted k) × (f k ≡ refused n p)))
-  then-refused (accepted k) n p = (λ e. inr (k, refl, e), back)
+  pub then-refused : (a : Answer A) (r : Refusal) → (then a f ≡ refused r) ↔ ((a ≡ refused r) ⊎ ((k : A) × (a ≡ accepted k) × (f k ≡ refused r)))
+  then-refused (accepted k) r = (λ e. inr (k, refl, e), back)
     where
-      back : (accepted k ≡ refused n p) ⊎ ((j : A) × (accepted k ≡ accepted j) × (f j ≡ refused n p)) → f k ≡ refused n p
-      back (inl e) = absurd (let z : _≡_ {A = ℕ} 0 1 = cc in omega arith)
+      back : (accepted k ≡ refused r) ⊎ ((j : A) × (accepted k ≡ accepted j) × (f j ≡ refused r)) → f k ≡ refused r
+      back (inl e) = absurd (apart e)
       back (inr h) = ap (λ (a : Answer A). then a f) (h .1) ∙ h .2
-  then-refused (refused m q) n p = (λ e. inl (cc), back)
+  then-refused (refused q) r = (λ e. inl (ap refused (one-refusal e)), back)
     where
-      back : (_≡_ {A = Answer A} (refused m q) (refused n p)) ⊎ ((j : A) × (_≡_ {A = Answer A} (refused m q) (accepted j)) × (f j ≡ refused n p)) → _≡_ {A = Answer B} (refused m q) (refused n p)
-      back (inl e) = cc
+      back : (_≡_ {A = Answer A} (refused q) (refused r)) ⊎ ((j : A) × (_≡_ {A = Answer A} (refused q) (accepted j)) × (f j ≡ refused r)) → _≡_ {A = Answer B} (refused q) (refused r)
+      back (inl e) = ap refused (one-refusal e)
       back (inr h) = ap (λ (a : Answer A). then a f) (h .1) ∙ h .2

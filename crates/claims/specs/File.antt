@@ -4,6 +4,7 @@ use Prim.Native.Nat.{ℕ, _≤_}
 use mathlib.Core.Path.{_≡_}
 use mathlib.Core.List.{List, [], _∷_, _++_, map}
 use lib.ListN.{length}
+use Rattle.answers.specs.Answer.{Counts}
 use Rattle.timeline.specs.Design.{Design}
 use Rattle.timeline.specs.Rules.{Lawful}
 use Rattle.entry.specs.Records.{Record, records}
@@ -24,14 +25,14 @@ list-bytes D = joined (map encoded (records D))
 abbrev pub file-of : Design → List ℕ
 file-of D = packed (list-bytes D)
 
--- The file is that of a design which is in range, whole and keeps the rules, with c components and r records, no more than a file holds.
-pub record Holds-lawful (file : List ℕ) (c r : ℕ) : Type 0 where
+-- The file is that of a design which is in range, whole and keeps the rules, with so many components and records, no more than a file holds.
+pub record Holds-lawful (file : List ℕ) (k : Counts) : Type 0 where
   pub design : Design
   pub lawful : Lawful design
   pub is : file-of design ≡ file
-  pub components : length design ≡ c
-  pub count : length (records design) ≡ r
-  pub few : r ≤ 3968
+  pub components : length design ≡ k .components
+  pub count : length (records design) ≡ k .records
+  pub few : k .records ≤ 3968
 
 -- The records that an accepted file holds, and the design that they say.
 abbrev pub said-records : List ℕ → List Record

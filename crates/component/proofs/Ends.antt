@@ -6,12 +6,13 @@ use mathlib.Core.Path.{_≡_, refl, sym, ap, _∙_, subst}
 use mathlib.Core.List.{List}
 use native.Mathlib.Omega.{arith}
 use native.Mathlib.Numerals.{add-one}
+use Rattle.answers.specs.declared.Refusal.{Refusal}
+use Rattle.answers.specs.Answer.{accepted, refused, Numbered}
 use Rattle.timeline.specs.Design.{Port, Class}
 use Rattle.entry.specs.Records.{Part, Record, wrong, component, part}
-use Rattle.entry.specs.Answers.{accepted, refused}
 use Rattle.reading.specs.Reader as Reading
 use Rattle.reading.specs.Reader.{Row, tests}
-use Rattle.rules.specs.Lowest.{lowest}
+use Rattle.rules.specs.Failed.{first-failed}
 use Rattle.reader.specs.declared.Reader.{Reader}
 use Rattle.reader.specs.Rows.{row, signature, none}
 use Rattle.reader.specs.State.{State, fresh, begin, viewed, own-row, opened, is-component}
@@ -28,36 +29,32 @@ component-of wrong e = absurd (let z : _≡_ {A = ℕ} 0 1 = cc in omega arith)
 component-of (component k d) e = (k, d, refl)
 component-of (part y) e = absurd (let z : _≡_ {A = ℕ} 0 1 = cc in omega arith)
 
-pub part-of : (look : ℕ → Port) (s : State) (x : Record) (m : ℕ) → is-component x ≡ false → m ≡ lowest (tests look (Reading.reads (viewed none s)) x) → m ≡ 0 → (y : Part) × (x ≡ part y)
+pub part-of : (look : ℕ → Port) (s : State) (x : Record) (m : ℕ) → is-component x ≡ false → m ≡ first-failed (tests look (Reading.reads (viewed none s)) x) → m ≡ 0 → (y : Part) × (x ≡ part y)
 part-of look s wrong m e t z = absurd (omega arith)
 part-of look s (component k d) m e t z = absurd (let z : _≡_ {A = ℕ} 0 1 = cc in omega arith)
 part-of look s (part y) m e t z = (y, refl)
 
 module _ (file : List ℕ) (n : ℕ) (rows : ℕ → Row) (q : Progress) (e : Ended) where
-  -- Stopped, at position a with this number.
-  module _ (r : Reader) (a c m : ℕ) (is : e .progress ≡ record { reader = r; at = a; count = c; refusal = m; goes = false }) where
-    abbrev p : Progress
-    p = record { reader = r; at = a; count = c; refusal = m; goes = false }
+  -- Stopped, with this refusal.
+  module _ (r : Reader) (a c : ℕ) (m : Refusal) (is : e .progress ≡ record { reader = r; at = a; count = c; refusal = m; goes = false }) where
+    number-is : e .progress .refusal .number ≡ m .number
+    number-is = ap (λ (z : Progress). z .refusal .number) is
 
-    pub refused-read : (4 ≤ m) × (m ≤ 12) → rest file n (run rows q) (q .at) ≡ refused m a → Read file n (e .progress .goes) rows q e
-    refused-read range answer =
-        let f : e .progress .refusal ≡ m = ap (λ (z : Progress). z .refusal) is in
+    pub refused-read : Numbered (m .number) → rest file n (run rows q) (q .at) ≡ refused m → Read file n (e .progress .goes) rows q e
+    refused-read some answer =
         subst (λ (b : Bool). Read file n b rows q e) (sym (ap (λ (z : Progress). z .goes) is))
         (record {
-          range = λ d. rw f range;
           refuses = λ d. rw is answer;
-          accepts = λ z. absurd (let l = range .0 in omega arith);
-          whole = λ z. absurd (let l = range .0 in omega arith);
+          accepts = λ z. absurd (let l = number-is in omega arith);
+          whole = λ z. absurd (let l = number-is in omega arith);
         })
 
-    pub whole-read : m ≡ 0 → a ≡ n → (s : State) → rest file n (run rows q) (q .at) ≡ accepted c a → last file n (run rows q) (q .at) ≡ reads rows s → s .number ≡ e .place → c ≡ e .place + 1 → e .row ≡ signature (own-row s)
+    pub whole-read : m .number ≡ 0 → a ≡ n → (s : State) → rest file n (run rows q) (q .at) ≡ accepted (record { components = c; records = a }) → last file n (run rows q) (q .at) ≡ reads rows s → s .number ≡ e .place → c ≡ e .place + 1 → e .row ≡ signature (own-row s)
         → Read file n (e .progress .goes) rows q e
     whole-read z all s answer leads number count own =
-        let f : e .progress .refusal ≡ m = ap (λ (z : Progress). z .refusal) is in
         subst (λ (b : Bool). Read file n b rows q e) (sym (ap (λ (z : Progress). z .goes) is))
         (record {
-          range = λ d. absurd (d (f ∙ z));
-          refuses = λ d. absurd (d (f ∙ z));
+          refuses = λ d. absurd (let l = number-is in omega arith);
           accepts = λ y. rw is answer;
           whole = λ y. (ap (λ (z : Progress). z .at) is ∙ all, ap (λ (z : Progress). z .count) is ∙ count, record { final = s; leads = leads; number = number; row = sym (ap row own ∙ row-back (own-row s)) });
         })

@@ -11,20 +11,23 @@ use native.Mathlib.Decide.{decLt}
 use lib.Dec.{ltb→lt}
 use Rattle.numbers.specs.Numbers.{Bytes}
 use Rattle.timeline.specs.Design.{Class}
-use Rattle.entry.specs.Records.{Part, Record, component, part}
-use Rattle.entry.specs.Answers.{accepted, refused}
+use Rattle.answers.specs.declared.Refusal.{Refusal}
+use Rattle.answers.specs.Fault as Fault
+use Rattle.answers.specs.Answer.{accepted, refused}
+use Rattle.entry.specs.Records.{Part, Record, wrong, component, part}
 use Rattle.reading.specs.Place.{may-end}
 use Rattle.reading.specs.Reader as Reading
-use Rattle.reading.specs.Reader.{Row, tests}
+use Rattle.reading.specs.Reader.{Row, View, tests}
+use Rattle.reading.specs.Told.{told, told-number}
 use Rattle.reading.specs.Reads.{Ranged, Passes}
-use Rattle.rules.specs.Lowest.{lowest}
+use Rattle.rules.specs.Failed.{first-failed}
 use Rattle.records.specs.Decoded.{decoded}
 use Rattle.look.specs.Look.{sixteen, look}
 use Rattle.order.specs.Seen.{seen}
 use Rattle.reader.specs.declared.Reader.{Reader}
 use Rattle.reader.specs.Rows.{none, row-in}
 use Rattle.reader.specs.State.{State, state, fresh, begin, viewed, own-row, part-went, holding, named, Turned}
-use Rattle.reader.proofs.Passed.{numbered, passes, lowest-range}
+use Rattle.reader.proofs.Passed.{numbered, passes}
 use Rattle.component.specs.declared.Progress.{Progress}
 use Rattle.component.specs.Run.{waits, reads, after, view, held-on, next, rest, last, Onward, Fit}
 use Rattle.component.specs.Component.{with-row, run, Holds-rows}
@@ -37,6 +40,13 @@ use Rattle.component.proofs.Parts.{part-number, part-idle, part-fits, p
 after-none : (i : ℕ) (rows : ℕ → Row) (s : State) → i ≡ 0 → after i rows s ≡ waits
 after-none zero rows s e = refl
 after-none (suc i) rows s e = absurd (omega arith)
+
+-- What is told of record p, which breaks rule m, whatever has been read.
+abbrev pub Tells : (p m : ℕ) → Refusal → Type 0
+Tells p m t = (v : View) → (x : Record) → t ≡ told v x p m
+
+pub tells-number : (p m : ℕ) (t : Refusal) → Tells p m t → t .number ≡ m
+tells-number p m t tells = ap (λ (z : Refusal). z .number) (tells Reading.waits wrong) ∙ told-number Reading.waits wrong p m
 
 module _ (file : List ℕ) (n : ℕ) (q : Progress) (held : List ℕ) (r : Reader) (is os us fs : List ℕ) (i : ℕ) (here : Inside file n q held r is os us fs i) (l : i < n) (few : n ≤ 3968) (small : Bytes file)
     (x : Record) (said : decoded (sixteen file i) ≡ x) (ranged : Ranged x) (w : Row) (w-is : row-in held (named x) ≡ w)
@@ -55,27 +65,24 @@ module _ (file : List ℕ) (n : ℕ) (q : Progress) (held : List ℕ) (r : Reade
     at-named b = so .like (named x) b ∙ w-is
 
     -- The tests that are made are those of the theory.
-    tested : refusal ≡ lowest (tests (look file) (view (after i rows s₁)) x)
+    tested : refusal ≡ first-failed (tests (look file) (view (after i rows s₁)) x)
     tested = go (decLt 0 i)
       where
-        go : Dec (0 < i) → refusal ≡ lowest (tests (look file) (view (after i rows s₁)) x)
-        go (yes p) = rw (after-some i rows s₁ p) (turned .lowest-is ∙ tests-as (look file) (so .h) w r is os us fs rows x at-named)
+        go : Dec (0 < i) → refusal ≡ first-failed (tests (look file) (view (after i rows s₁)) x)
+        go (yes p) = rw (after-some i rows s₁ p) (turned .number-is ∙ tests-as (look file) (so .h) w r is os us fs rows x at-named)
         go (no p) =
             let z : i ≡ 0 = omega arith in
             let f = here .first z in
-            rw (after-none i rows s₁ z) (turned .lowest-is ∙ closed-tests (look file) s x (f .0) (let y = f .1 in omega arith))
+            rw (after-none i rows s₁ z) (turned .number-is ∙ closed-tests (look file) s x (f .0) (let y = f .1 in omega arith))
 
-    pub stops-here : refusal ≢ 0 → rest file n (run rows q) (q .at) ≡ refused refusal i
-    stops-here d = so .onward .answer ∙ stops file n i l (after i rows s₁) x said refusal tested d
+    pub stops-here : refusal ≢ 0 → (t : Refusal) → Tells i refusal t → rest file n (run rows q) (q .at) ≡ refused t
+    stops-here d t tells = so .onward .answer ∙ stops file n i l (after i rows s₁) x said refusal tested d ∙ ap refused (sym (tells (view (after i rows s₁)) x))
 
     moves : refusal ≡ 0 → Onward file n (run rows q) (q .at) (next (after i rows s₁) i x) (i + 1)
     moves z = further file n (so .onward) (steps file n i l (after i rows s₁) x said refusal tested z)
 
-  pub stops-range : refusal ≢ 0 → (4 ≤ refusal) × (refusal ≤ 12)
-  stops-range d = rw (turned .lowest-is) (lowest-range (tests (look file) (Reading.reads (viewed none s)) x) (numbered (look file) (Reading.reads (viewed none s)) x) (rw (turned .lowest-is) at d))
-
   pass : refusal ≡ 0 → Passes (tests (look file) (Reading.reads (viewed none s)) x)
-  pass z = passes (tests (look file) (Reading.reads (viewed none s)) x) (numbered (look file) (Reading.reads (viewed none s)) x) (sym (turned .lowest-is) ∙ z)
+  pass z = passes (tests (look file) (Reading.reads (viewed none s)) x) (numbered (look file) (Reading.reads (viewed none s)) x) (sym (turned .number-is) ∙ z)
 
   -- A component record ends the component.
   module _ (z : refusal ≡ 0) (k : Class) (d : ℕ) (is-component : x ≡ component k d) where
@@ -108,7 +115,7 @@ module _ (file : List ℕ) (n : ℕ) (q : Progress) (held : List ℕ) (r : Reade
         go (no p) =
             let o : i ≡ 0 = omega arith in
             let f = here .first o in
-            let c = rw is-part at (turned .lowest-is ∙ closed-tests (look file) s x (f .0) (let y = f .1 in omega arith)) in
+            let c = rw is-part at (turned .number-is ∙ closed-tests (look file) s x (f .0) (let y = f .1 in omega arith)) in
             absurd (omega (arith, c, z))
 
     kept : state r′ (λ m. w) is′ os′ us′ fs′ ≡ part-went s y
@@ -168,11 +175,14 @@ module _ (file : List ℕ) (n : ℕ) (q : Progress) (held : List ℕ) (r : Reade
     reads-on : Onward file n (run rows q) (q .at) (reads rows last-state) i
     reads-on = rw (after-some i rows last-state (omega arith)) at ((here .sofar rows g) .onward)
 
-    pub all-short : may-end (seen (r .place)) ≡ false → rest file n (run rows q) (q .at) ≡ refused 5 n
-    all-short e = reads-on .answer ∙ ends-short file n i l rows last-state e ∙ ap (λ (m : ℕ). refused 5 m) all-read
+    pub all-short : may-end (seen (r .place)) ≡ false → (t : Refusal) → Tells n Fault.Place t → rest file n (run rows q) (q .at) ≡ refused t
+    all-short e t tells =
+        reads-on .answer ∙ ends-short file n i l rows last-state e
+        ∙ ap (λ (p : ℕ). refused (told (view (reads rows last-state)) wrong p Fault.Place)) all-read
+        ∙ ap refused (sym (tells (view (reads rows last-state)) wrong))
 
-    pub all-whole : may-end (seen (r .place)) ≡ true → rest file n (run rows q) (q .at) ≡ accepted (q .count) n
-    all-whole e = let c = here .counted (omega arith) in let d : accepted (r .number + 1) i ≡ accepted (q .count) n = rw (c, all-read) in reads-on .answer ∙ ends-whole file n i l rows last-state e ∙ d
+    pub all-whole : may-end (seen (r .place)) ≡ true → rest file n (run rows q) (q .at) ≡ accepted (record { components = q .count; records = n })
+    all-whole e = let c = here .counted (omega arith) in reads-on .answer ∙ ends-whole file n i l rows last-state e ∙ rw (c, all-read)
 
     pub all-leads : last file n (run rows q) (q .at) ≡ reads rows last-state
     all-leads = reads-on .leads ∙ ends-there file n i l rows last-state

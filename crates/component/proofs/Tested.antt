@@ -11,14 +11,14 @@ use Rattle.entry.specs.Records.{Part, input, output, instance, invocation, argu
 use Rattle.reading.specs.Reader as Reading
 use Rattle.reading.specs.Reader.{Row, tests}
 use Rattle.reading.specs.Reads.{Passes}
-use Rattle.rules.specs.Lowest.{lowest}
+use Rattle.rules.specs.Failed.{first-failed}
 use Rattle.order.specs.Seen.{closed}
 use Rattle.reader.specs.declared.Reader.{Reader}
 use Rattle.reader.specs.Rows.{none}
 use Rattle.reader.specs.State.{State, state, viewed, part-went, holding, named}
 
 module _ (look : ℕ → Port) where
-  rows-unseen : (rows : ℕ → Row) (s : State) (x : Record) → lowest (tests look (Reading.reads (viewed none s)) x) ≡ lowest (tests look (Reading.reads (viewed rows s)) x)
+  rows-unseen : (rows : ℕ → Row) (s : State) (x : Record) → first-failed (tests look (Reading.reads (viewed none s)) x) ≡ first-failed (tests look (Reading.reads (viewed rows s)) x)
   rows-unseen rows s wrong = refl
   rows-unseen rows s (component k d) = refl
   rows-unseen rows s (part (input p)) = refl
@@ -34,7 +34,7 @@ module _ (look : ℕ → Port) where
 
   -- w: the row of the instance that is named, if there is such an instance.
   module _ (h : ℕ → Row) (w : Row) (r : Reader) (i o u f : List ℕ) where
-    same-tests : (x : Record) → (named x < r .place .instances → h (named x) ≡ w) → lowest (tests look (Reading.reads (viewed none (state r (λ m. w) i o u f))) x) ≡ lowest (tests look (Reading.reads (viewed none (state r h i o u f))) x)
+    same-tests : (x : Record) → (named x < r .place .instances → h (named x) ≡ w) → first-failed (tests look (Reading.reads (viewed none (state r (λ m. w) i o u f))) x) ≡ first-failed (tests look (Reading.reads (viewed none (state r h i o u f))) x)
     same-tests wrong e = refl
     same-tests (component k d) e = refl
     same-tests (part (input p)) e = refl
@@ -42,7 +42,7 @@ module _ (look : ℕ → Port) where
     same-tests (part (instance n)) e = refl
     same-tests (part (invocation v)) e = go (ltb (v .instance) (r .place .instances)) refl
       where
-        go : (b : Bool) → ltb (v .instance) (r .place .instances) ≡ b → lowest (tests look (Reading.reads (viewed none (state r (λ m. w) i o u f))) (part (invocation v))) ≡ lowest (tests look (Reading.reads (viewed none (state r h i o u f))) (part (invocation v)))
+        go : (b : Bool) → ltb (v .instance) (r .place .instances) ≡ b → first-failed (tests look (Reading.reads (viewed none (state r (λ m. w) i o u f))) (part (invocation v))) ≡ first-failed (tests look (Reading.reads (viewed none (state r h i o u f))) (part (invocation v)))
         go true q = rw (e (ltb-true _ _ q))
         go false q = rw q
     same-tests (part (argument (own j))) e = refl
@@ -52,11 +52,11 @@ module _ (look : ℕ → Port) where
     same-tests (part (connection (output-of j k))) e = refl
     same-tests (part (connection (constant v))) e = refl
 
-    pub tests-as : (rows : ℕ → Row) (x : Record) → (named x < r .place .instances → h (named x) ≡ w) → lowest (tests look (Reading.reads (viewed none (state r (λ m. w) i o u f))) x) ≡ lowest (tests look (Reading.reads (viewed rows (state r h i o u f))) x)
+    pub tests-as : (rows : ℕ → Row) (x : Record) → (named x < r .place .instances → h (named x) ≡ w) → first-failed (tests look (Reading.reads (viewed none (state r (λ m. w) i o u f))) x) ≡ first-failed (tests look (Reading.reads (viewed rows (state r h i o u f))) x)
     tests-as rows x e = same-tests x e ∙ rows-unseen rows (state r h i o u f) x
 
   -- Where only a component may stand, a record is refused as before the first.
-  pub closed-tests : (s : State) (x : Record) → s .place ≡ closed → s .number + 1 < 64 → lowest (tests look (Reading.reads (viewed none s)) x) ≡ lowest (tests look Reading.waits x)
+  pub closed-tests : (s : State) (x : Record) → s .place ≡ closed → s .number + 1 < 64 → first-failed (tests look (Reading.reads (viewed none s)) x) ≡ first-failed (tests look Reading.waits x)
   closed-tests s wrong e l = refl
   closed-tests s (component k d) e l = rw (e, lt-ltb _ _ l)
   closed-tests s (part (input p)) e l = rw e

@@ -9,18 +9,20 @@ use native.Mathlib.Omega.{arith}
 use native.Mathlib.Numerals.{add-one}
 use borrow.Author.Tests.{ne-eqb, eq-eqb}
 use lib.Dec.{eqb}
-use Rattle.entry.specs.Records.{Record}
-use Rattle.entry.specs.Answers.{accepted, refused}
+use Rattle.answers.specs.Fault as Fault
+use Rattle.answers.specs.Answer.{accepted, refused}
+use Rattle.entry.specs.Records.{Record, wrong}
 use Rattle.reading.specs.Place.{may-end}
 use Rattle.reading.specs.Reader as Reading
 use Rattle.reading.specs.Reader.{Row, tests}
+use Rattle.reading.specs.Told.{told}
 use Rattle.reading.specs.Scan.{scan, final, tried}
 use Rattle.reading.specs.Reads.{Ranged, Passes}
-use Rattle.rules.specs.Lowest.{lowest}
+use Rattle.rules.specs.Failed.{first-failed}
 use Rattle.records.specs.Decoded.{decoded}
 use Rattle.look.specs.Look.{sixteen, look}
 use Rattle.reader.specs.State.{State}
-use Rattle.reader.proofs.Passed.{numbered, passes, lowest-range, tried-lowest}
+use Rattle.reader.proofs.Passed.{numbered, passes, tried-first}
 use Rattle.look.specs.Listed.{sixteens}
 use Rattle.component.specs.Run.{Run, reads, after, view, next, Own, from, rest, last, Onward}
 use Rattle.component.proofs.Keeps.{own-next}
@@ -39,14 +41,14 @@ module _ (file : List ℕ) (n : ℕ) where
         let e : n - i ≡ suc (n - (i + 1)) = omega arith in
         rw e (rw add-one)
 
-    module _ (s : Run) (x : Record) (is : decoded (sixteen file i) ≡ x) (m : ℕ) (t : m ≡ lowest (tests (look file) (view s) x)) where
-      turn-is : rest file n s i ≡ cond (eqb m 0) (rest file n (next s i x) (i + 1)) (refused m i)
+    module _ (s : Run) (x : Record) (is : decoded (sixteen file i) ≡ x) (m : ℕ) (t : m ≡ first-failed (tests (look file) (view s) x)) where
+      turn-is : rest file n s i ≡ cond (eqb m 0) (rest file n (next s i x) (i + 1)) (refused (told (view s) x i m))
       unfolding scan
       turn-is =
-          ap (λ rs. scan Run (λ u. tests (look file) (view u)) (λ u. Reading.ends (view u)) (λ u. Reading.count (view u)) next s i rs) from-more
-          ∙ rw (is, t, ← add-one i) (tried-lowest (tests (look file) (view s) x) (numbered (look file) (view s) x) i (rest file n (next s i x) (i + 1)))
+          ap (λ rs. scan Run (λ u. tests (look file) (view u)) (λ u. Reading.ends (view u)) (λ u. told (view u)) (λ u. Reading.count (view u)) next s i rs) from-more
+          ∙ rw (is, t, ← add-one i) (tried-first (tests (look file) (view s) x) (numbered (look file) (view s) x) (told (view s) x i) (rest file n (next s i x) (i + 1)))
 
-      pub stops : m ≢ 0 → rest file n s i ≡ refused m i
+      pub stops : m ≢ 0 → rest file n s i ≡ refused (told (view s) x i m)
       stops d = rw (ne-eqb m 0 d) at turn-is
 
       goes : m ≡ 0 → rest file n s i ≡ rest file n (next s i x) (i + 1)
@@ -55,14 +57,11 @@ module _ (file : List ℕ) (n : ℕ) where
       leads : last file n s i ≡ last file n (next s i x) (i + 1)
       unfolding final
       leads =
-          ap (λ rs. final Run (λ u. tests (look file) (view u)) (λ u. Reading.ends (view u)) (λ u. Reading.count (view u)) next s i rs) from-more
+          ap (λ rs. final Run (λ u. tests (look file) (view u)) (λ u. Reading.ends (view u)) (λ u. told (view u)) (λ u. Reading.count (view u)) next s i rs) from-more
           ∙ rw (is, add-one i)
 
       pub steps : m ≡ 0 → Onward file n s i (next s i x) (i + 1)
       steps z = record { answer = goes z; leads = leads }
-
-      pub range : m ≢ 0 → (4 ≤ m) × (m ≤ 12)
-      range d = rw t (lowest-range (tests (look file) (view s) x) (numbered (look file) (view s) x) (rw t at d))
 
       pub passed : m ≡ 0 → Passes (tests (look file) (view s) x)
       passed z = passes (tests (look file) (view s) x) (numbered (look file) (view s) x) (sym t ∙ z)
@@ -76,11 +75,11 @@ module _ (file : List ℕ) (n : ℕ) where
     from-none = let e : n - i ≡ 0 = omega arith in rw e
 
     module _ (rows : ℕ → Row) (s : State) where
-      pub ends-whole : may-end (s .place) ≡ true → rest file n (reads rows s) i ≡ accepted (s .number + 1) i
+      pub ends-whole : may-end (s .place) ≡ true → rest file n (reads rows s) i ≡ accepted (record { components = s .number + 1; records = i })
       unfolding scan tried
       ends-whole e = rw (from-none, e)
 
-      pub ends-short : may-end (s .place) ≡ false → rest file n (reads rows s) i ≡ refused 5 i
+      pub ends-short : may-end (s .place) ≡ false → rest file n (reads rows s) i ≡ refused (told (view (reads rows s)) wrong i Fault.Place)
       unfolding scan tried
       ends-short e = rw (from-none, e)
 

@@ -4,10 +4,9 @@ use Prim.Native.Nat.{ℕ, zero, suc, _+_, _-_, _≤_, _<_}
 use mathlib.Core.Bool.{Bool, true, false}
 use mathlib.Core.Path.{_≡_}
 use mathlib.Core.List.{List}
-use mathlib.Core.Logic.{_≢_}
 use lib.ListN.{length, getD}
+use Rattle.answers.specs.Answer.{accepted, refused, Numbered}
 use Rattle.timeline.specs.Design.{Class}
-use Rattle.entry.specs.Answers.{accepted, refused}
 use Rattle.reading.specs.Changed.{changed}
 use Rattle.reading.specs.Reader.{Row}
 use Rattle.reader.specs.Rows.{row, none, row-in}
@@ -55,10 +54,9 @@ module _ (file : List ℕ) (n : ℕ) where
     pub row : own-row final ≡ row (e .row)
 
   pub record Stops (rows : ℕ → Row) (q : Progress) (e : Ended) : Type 0 where
-    pub range : e .progress .refusal ≢ 0 → (4 ≤ e .progress .refusal) × (e .progress .refusal ≤ 12)
-    pub refuses : e .progress .refusal ≢ 0 → rest file n (run rows q) (q .at) ≡ refused (e .progress .refusal) (e .progress .at)
-    pub accepts : e .progress .refusal ≡ 0 → rest file n (run rows q) (q .at) ≡ accepted (e .progress .count) (e .progress .at)
-    pub whole : e .progress .refusal ≡ 0 → (e .progress .at ≡ n) × (e .progress .count ≡ e .place + 1) × Whole rows q e
+    pub refuses : Numbered (e .progress .refusal .number) → rest file n (run rows q) (q .at) ≡ refused (e .progress .refusal)
+    pub accepts : e .progress .refusal .number ≡ 0 → rest file n (run rows q) (q .at) ≡ accepted (record { components = e .progress .count; records = e .progress .at })
+    pub whole : e .progress .refusal .number ≡ 0 → (e .progress .at ≡ n) × (e .progress .count ≡ e .place + 1) × Whole rows q e
 
   abbrev pub Read : (goes : Bool) → (ℕ → Row) → Progress → Ended → Type 0
   Read true rows q e = Goes rows q e

@@ -4,8 +4,8 @@ use Prim.Native.Nat.{ℕ, zero, suc, _≤_, _<_, _-_, _+_}
 use mathlib.Core.Path.{_≡_}
 use mathlib.Core.List.{List, map}
 use lib.ListN.{length}
+use Rattle.answers.specs.Answer.{Answer, Counts}
 use Rattle.entry.specs.Records.{Record, wrong, component, part, Part, input, output, instance, invocation, argument, connection}
-use Rattle.entry.specs.Answers.{Answer}
 use Rattle.reading.specs.Changed.{changed}
 use Rattle.reading.specs.Reader as Reading
 use Rattle.reading.specs.Reader.{Row, View}
@@ -70,7 +70,7 @@ module _ (file : List ℕ) (n : ℕ) where
   abbrev pub from : ℕ → List Record
   from i = map decoded (sixteens file i (n - i))
 
-  abbrev pub rest : Run → ℕ → Answer
+  abbrev pub rest : Run → ℕ → Answer Counts
   rest s i = answer Run view next Own (records-of file n) (look file) s i (from i)
 
   abbrev pub last : Run → ℕ → Run

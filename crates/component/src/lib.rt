@@ -1,4 +1,6 @@
 // The records of one component, read with the rows of the components that its instances are made of; and which rows those are.
+use answers::Refusal;
+use answers::fault;
 use reader::Reader;
 use records::Record;
 use signatures::Signature;
@@ -7,7 +9,9 @@ ghost use mathlib.Core.Bool.{true, false, cond};
 ghost use mathlib.Core.List.{[]};
 ghost use Prim.Native.Nat.{ℕ, _+_, _-_, _*_, _/_, _≤_, _<_};
 ghost use lib.ListN.{length};
-ghost use Rattle.reading.specs.Reader.{Row};
+ghost use Rattle.entry.specs.Records.{Record as Said};
+ghost use Rattle.reading.specs.Reader.{Row, View};
+ghost use Rattle.reading.specs.Told.{told};
 ghost use Rattle.records.specs.Says.{says};
 ghost use Rattle.reader.specs.Rows.{signature, Exact};
 ghost use Rattle.reader.specs.State.{fresh, before, own-row, opened, Few};
@@ -29,12 +33,12 @@ fn size(x: u16) -> usize
 }
 
 // How far the reading has come: the component that is being read, the record that is next, how many components have begun.
-// Where it goes no further, `at` is the position of a refusal with this number; 0 for none.
+// Where it goes no further, the refusal; its number is 0 for none. Where there is one, no record is next and `at` is 0.
 pub struct Progress {
     pub reader: Reader,
     pub at: usize,
     pub count: usize,
-    pub refusal: u8,
+    pub refusal: Refusal,
     pub goes: bool,
 }
 
@@ -142,8 +146,23 @@ pub fn next_wanted(file: &[u8], w: Wanted) -> Wanted
     next_instance(file, w.end, w.from, w.place + 1)
 }
 
-// The reading stops at this position.
-fn stopped(r: Reader, count: usize, at: usize, refusal: u8) -> Ended
+// No refusal.
+fn no_refusal() -> Refusal
+    ensures { λ r. ⌜ r .number ≡ 0 ⌝ }
+{
+    Refusal::at(0, 0)
+}
+
+// What is told of the rule with this number that record p breaks: found after the fact, so that the loop over the records pays
+// nothing for it.
+fn told(number: u8, p: usize) -> Refusal
+    ensures { λ r. ⌜ ((v : View) → (x : Said) → r ≡ told v x p number) ⌝ }
+{
+    Refusal::at(number, p)
+}
+
+// The reading goes no further.
+fn stopped(r: Reader, count: usize, at: usize, refusal: Refusal) -> Ended
     requires { ⌜ Few r ⌝ }
     ensures { λ e. ⌜ (e .progress ≡ record { reader = r; at = at; count = count; refusal = refusal; goes = false }) × (e .place ≡ r .number) × (e .row ≡ signature (own-row (fresh r))) ⌝ }
 {
@@ -170,7 +189,7 @@ fn goes_on(r: Reader, x: Record, count: usize, at: usize) -> Ended
             reader: reader::opened(x, half(at - 1), count),
             at,
             count: count + 1,
-            refusal: 0,
+            refusal: no_refusal(),
             goes: true,
         },
         place: r.number,
@@ -211,9 +230,9 @@ pub fn read_component(file: &[u8], n: usize, q: Progress, held: &[u16]) -> Ended
             &mut least,
             &mut greatest,
         );
-        let refusal = t.refusal;
-        if refusal != 0 {
-            return stopped(r, count, p, refusal);
+        let number = t.refusal;
+        if number != 0 {
+            return stopped(r, count, 0, told(number, p));
         }
         if reader::is_component(x) {
             return goes_on(r, x, count, i);
@@ -222,20 +241,20 @@ pub fn read_component(file: &[u8], n: usize, q: Progress, held: &[u16]) -> Ended
     }
     let place = r.place;
     if place.may_end() {
-        return stopped(r, count, n, 0);
+        return stopped(r, count, n, no_refusal());
     }
-    stopped(r, count, n, 5)
+    stopped(r, count, 0, told(fault::PLACE, n))
 }
 
 // Before the first record.
 pub fn start() -> Progress
-    ensures { λ q. ⌜ (fresh (q .reader) ≡ before) × (q .at ≡ 0) × (q .count ≡ 0) × (q .refusal ≡ 0) × (q .goes ≡ true) ⌝ }
+    ensures { λ q. ⌜ (fresh (q .reader) ≡ before) × (q .at ≡ 0) × (q .count ≡ 0) × (q .refusal .number ≡ 0) × (q .goes ≡ true) ⌝ }
 {
     Progress {
         reader: reader::start(),
         at: 0,
         count: 0,
-        refusal: 0,
+        refusal: no_refusal(),
         goes: true,
     }
 }

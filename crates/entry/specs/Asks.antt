@@ -1,10 +1,11 @@
 -- The rules, record by record: what document 01 asks of a record, and of the end of the list, after what the records before it have said.
--- One ordered table, `asks` below: each rule with the number of its refusal, lowest first.
+-- One ordered table, `asks` below: each rule with the number of its refusal. The order decides which of several broken rules is told.
 -- Assumes nothing.
 use Prim.Native.Nat.{ℕ, suc, _+_, _-_, _^_, _≤_, _<_}
 use mathlib.Core.Path.{_≡_}
 use mathlib.Core.List.{List, [], _∷_}
 use lib.ListN.{length, getD}
+use Rattle.answers.specs.Fault as Fault
 use Rattle.timeline.specs.Design.{Component, Call, Port, Source, own, output-of, constant, built, no-port, no-call, no-component}
 use Rattle.timeline.specs.Rules.{Port-range, Source-range, Clear, Contains}
 use Rattle.entry.specs.Records.{Part, input, output, instance, invocation, argument, connection, Record, wrong, component, part}
@@ -112,35 +113,35 @@ module _ (E : List Component) (C : Component) where
 
   -- The table, for a part in range. "One of a kind too many" (6) is said of ports, instances and invocations: an argument or a connection too many has no place.
   abbrev pub part-asks : Part → Asks
-  part-asks (input p) = (5, Place (input p)) ∷ (6, length (C .inputs) < 16) ∷ (9, Short p) ∷ []
-  part-asks (output p) = (5, Place (output p)) ∷ (6, length (C .outputs) < 16) ∷ (9, Short p) ∷ []
-  part-asks (instance n) = (5, Place (instance n)) ∷ (6, length (C .instances) < 32) ∷ (7, n < length E) ∷ []
+  part-asks (input p) = (Fault.Place, Place (input p)) ∷ (Fault.TooMany, length (C .inputs) < 16) ∷ (Fault.Interval, Short p) ∷ []
+  part-asks (output p) = (Fault.Place, Place (output p)) ∷ (Fault.TooMany, length (C .outputs) < 16) ∷ (Fault.Interval, Short p) ∷ []
+  part-asks (instance n) = (Fault.Place, Place (instance n)) ∷ (Fault.TooMany, length (C .instances) < 32) ∷ (Fault.Reference, n < length E) ∷ []
   part-asks (invocation v) =
-      (5, Place (invocation v))
-      ∷ (6, length (C .calls) < 64)
-      ∷ (7, v .instance < length (C .instances))
-      ∷ (10, ((j : ℕ) → j < length (C .calls) → Apart (call j) v))
-      ∷ (11, Spans v v × ((j : ℕ) → j < length (C .calls) → Spans (call j) v × Spans v (call j)))
+      (Fault.Place, Place (invocation v))
+      ∷ (Fault.TooMany, length (C .calls) < 64)
+      ∷ (Fault.Reference, v .instance < length (C .instances))
+      ∷ (Fault.Spacing, ((j : ℕ) → j < length (C .calls) → Apart (call j) v))
+      ∷ (Fault.Span, Spans v v × ((j : ℕ) → j < length (C .calls) → Spans (call j) v × Spans v (call j)))
       ∷ []
   part-asks (argument s) =
-      (5, Place (argument s)) ∷ (7, There last s) ∷ (8, Wide s next-input) ∷ (12, Ready s next-input ((call last) .offset)) ∷ []
+      (Fault.Place, Place (argument s)) ∷ (Fault.Reference, There last s) ∷ (Fault.Width, Wide s next-input) ∷ (Fault.Reading, Ready s next-input ((call last) .offset)) ∷ []
   part-asks (connection s) =
-      (5, Place (connection s)) ∷ (7, There (length (C .calls)) s) ∷ (8, Wide s next-output) ∷ (12, Ready s next-output 0) ∷ []
+      (Fault.Place, Place (connection s)) ∷ (Fault.Reference, There (length (C .calls)) s) ∷ (Fault.Width, Wide s next-output) ∷ (Fault.Reading, Ready s next-output 0) ∷ []
 
 -- The table, for a record in range. The first record is a component record; "at most 64 components", of which E and C are entered.
 abbrev pub further : Entered → Record → Asks
 further nothing wrong = []
 further nothing (component k d) = []
-further nothing (part x) = (5, ⊥) ∷ []
+further nothing (part x) = (Fault.Place, ⊥) ∷ []
 further (after E C) wrong = []
-further (after E C) (component k d) = (5, Complete E C) ∷ (6, suc (length E) < 64) ∷ []
+further (after E C) (component k d) = (Fault.Place, Complete E C) ∷ (Fault.TooMany, suc (length E) < 64) ∷ []
 further (after E C) (part x) = part-asks E C x
 
 -- What is asked of a record: first its ranges, wherever it stands.
 abbrev pub asks : Entered → Record → Asks
-asks e r = (4, In-range r) ∷ further e r
+asks e r = (Fault.Record, In-range r) ∷ further e r
 
 -- What is asked where the list ends. 5: "file ends in an incomplete component"
 abbrev pub ending : Entered → Asks
-ending nothing = (5, ⊥) ∷ []
-ending (after E C) = (5, Complete E C) ∷ []
+ending nothing = (Fault.Place, ⊥) ∷ []
+ending (after E C) = (Fault.Place, Complete E C) ∷ []

@@ -12,3 +12,5 @@ pub use Rattle.entry.specs.Proofs.Good.{Good, Finished}
 pub use Rattle.entry.specs.Proofs.Steps.{Sound, sound-step, records-step}
 -- The numbers of the records run on without a gap.
 pub use Rattle.entry.specs.Proofs.Numbered.{first-component, next-component, all-components}
+-- A refusal has some refusal's number.
+pub use Rattle.entry.specs.Proofs.Sure.{verdict-sure}

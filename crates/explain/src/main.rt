@@ -15,12 +15,11 @@ fn main() {
             records: _,
         } => {}
         Verdict::Refused(r) => {
-            let fault = r.fault;
             match packing::unpack(&file[..n], &mut list) {
                 Written::Done(_) => {}
                 Written::Refused(_) => {}
             }
-            reasons::reason(STDOUT_FILENO, n, &list, fault.number(), r.position);
+            reasons::reason(STDOUT_FILENO, n, &list, r);
         }
     }
 }

@@ -38,17 +38,17 @@ use Rattle.look.proofs.Light.{component-kind, connection-kind, instance-there, 
 module _ (file rows : List ℕ) (numbers : ℕ) (k : Counts) (small : Bytes file) (e : judgement file numbers ≡ accepted k) where
   pub opened : Filled (accepted k) file rows → length rows ≡ 320 → Opened file rows (k .records)
   opened f l =
-      let p = passed file numbers (k .components) (k .records) e in
-      let s = said-lawful file (k .components) (k .records) p in
+      let p = passed file numbers k e in
+      let s = said-lawful file k p in
       let b = count-bounds file (p .count) (p .blocks) in
-      let t = record-total file (k .components) (k .records) p in
+      let t = record-total file k p in
       record { small = small; lawful = s .0; records-are = s .1; few = rw t (b .1); held = rw t (b .2); room = l; filled = f }
 
   pub component-total : length (design-of file (k .records)) ≡ k .components
   component-total =
-      let p = passed file numbers (k .components) (k .records) e in
-      let h = (accepted-exactly (records-of file (p .count)) (k .components) (k .records)) .0 (p .rules) in
-      rw (record-total file (k .components) (k .records) p) (ap length (ap design (sym (h .2)) ∙ the-design (h .0) (h .1 .whole)) ∙ h .3)
+      let p = passed file numbers k e in
+      let h = (accepted-exactly (records-of file (p .count)) k) .0 (p .rules) in
+      rw (record-total file k p) (ap length (ap design (sym (h .2)) ∙ the-design (h .0) (h .1 .whole)) ∙ h .3)
 
 module _ {file rows : List ℕ} {n : ℕ} (h : Opened file rows n) where
   abbrev D : Design

@@ -1,17 +1,18 @@
 -- The struct that a host reads for each answer. (01, Answers)
 -- Assumes nothing.
 use Prim.Native.Nat.{ℕ}
+use Rattle.answers.specs.declared.Refusal.{Refusal}
 use Rattle.answers.specs.Answer.{Answer, accepted, refused, Counts}
 use Rattle.blocks.specs.File.{record-place}
 use Rattle.host.specs.declared.Reply.{Reply}
 
 -- "A refusal hands back its number and position", and nothing else.
-abbrev pub refusing : (number position : ℕ) → Reply
-refusing n p = record { refusal = n; position = p; count = 0; components = 0; offset = 0 }
+abbrev pub refusing : Refusal → Reply
+refusing r = record { refusal = r .number; position = r .position; count = 0; components = 0; offset = 0 }
 
 abbrev pub reply : {A : Type 0} → (given : A → Reply) → Answer A → Reply
 reply given (accepted a) = given a
-reply given (refused n p) = refusing n p
+reply given (refused r) = refusing r
 
 -- "Acceptance hands back: from the verdict the component and record counts, [..]
 abbrev pub counts : Counts → Reply

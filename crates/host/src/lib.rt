@@ -7,11 +7,10 @@ use answers::Written;
 use signatures::Signature;
 ghost use mathlib.Core.Path.{_≡_};
 ghost use lib.ListN.{length, replicate};
-ghost use Rattle.answers.specs.Answer.{number, judged, written, looked-up};
+ghost use Rattle.answers.specs.Answer.{judged, written, looked-up};
 ghost use Rattle.signatures.specs.Rows.{zero-row};
 ghost use Rattle.blocks.specs.File.{record-answer};
-ghost use Rattle.packing.specs.Packed.{packed, unpacked};
-ghost use Rattle.packing.specs.Answer.{pack-answer, unpack-answer, kept-or-written};
+ghost use Rattle.packing.specs.Answer.{pack-answer, unpack-answer, pack-left, unpack-left};
 ghost use Rattle.verdict.specs.Judgement.{judgement};
 ghost use Rattle.lowering.specs.Answer.{lower-answer, lower-left};
 ghost use Rattle.listing.specs.Answer.{list-answer, list-left};
@@ -44,12 +43,17 @@ fn wide(x: usize) -> u64
     x as u64
 }
 
-fn refused(r: Refusal) -> Reply
-    ensures { λ q. ⌜ q ≡ refusing (number (r .fault)) (r .position) ⌝ }
+fn number(x: u8) -> u64
+    ensures { λ r. ⌜ r ≡ x ⌝ }
 {
-    let fault = r.fault;
+    x as u64
+}
+
+fn refused(r: Refusal) -> Reply
+    ensures { λ q. ⌜ q ≡ refusing r ⌝ }
+{
     Reply {
-        refusal: fault.number(),
+        refusal: number(r.number),
         position: wide(r.position),
         count: 0,
         components: 0,
@@ -127,7 +131,7 @@ pub extern "C" fn dansevik_list(
 // The file of a list of records.
 #[no_mangle]
 pub extern "C" fn dansevik_pack(list: &[u8], out: &mut [u8]) -> Reply
-    ensures { λ r. ⌜ (r ≡ reply amount (pack-answer (now (list .entry)) (length (now (out .entry))))) × (now (out .exit) ≡ kept-or-written (pack-answer (now (list .entry)) (length (now (out .entry)))) (packed (now (list .entry))) (now (out .entry))) ⌝ }
+    ensures { λ r. ⌜ (r ≡ reply amount (pack-answer (now (list .entry)) (length (now (out .entry))))) × (now (out .exit) ≡ pack-left (now (list .entry)) (now (out .entry))) ⌝ }
 {
     of_written(packing::pack(list, out))
 }
@@ -135,7 +139,7 @@ pub extern "C" fn dansevik_pack(list: &[u8], out: &mut [u8]) -> Reply
 // The list of records of a file.
 #[no_mangle]
 pub extern "C" fn dansevik_unpack(file: &[u8], out: &mut [u8]) -> Reply
-    ensures { λ r. ⌜ (r ≡ reply amount (unpack-answer (now (file .entry)) (length (now (out .entry))))) × (now (out .exit) ≡ kept-or-written (unpack-answer (now (file .entry)) (length (now (out .entry)))) (unpacked (now (file .entry))) (now (out .entry))) ⌝ }
+    ensures { λ r. ⌜ (r ≡ reply amount (unpack-answer (now (file .entry)) (length (now (out .entry))))) × (now (out .exit) ≡ unpack-left (now (file .entry)) (now (out .entry))) ⌝ }
 {
     of_written(packing::unpack(file, out))
 }

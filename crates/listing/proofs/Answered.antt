@@ -10,7 +10,8 @@ use lib.ListN.{length, getD, drop}
 use lib.Dec.{leb}
 use borrow.Author.Tests.{lt-ltb, le-ltb, leb-true, lt-leb}
 use Rattle.numbers.specs.Tests.{and-both}
-use Rattle.answers.specs.Answer.{Answer, accepted, refused}
+use Rattle.answers.specs.Fault as Fault
+use Rattle.answers.specs.Answer.{Answer, accepted, refused, refusal}
 use Rattle.timeline.specs.Design.{Design}
 use Rattle.timeline.specs.Rules.{Lawful}
 use Rattle.timeline.specs.Flat.{row-count, unit-count, rows}
@@ -43,12 +44,12 @@ abbrev pub Answers : Design → (asked : ℕ) → (old : List ℕ) → Answer �
 Answers D asked old a new = (a ≡ flat-answer D asked (length old)) × (new ≡ flat-left D asked old)
 
 module _ (D : Design) (c : ℕ) (old : List ℕ) where
-  pub absent : length D ≤ c → Answers D c old (refused 14 c) old
+  pub absent : length D ≤ c → Answers D c old (refused (refusal Fault.Absent c)) old
   unfolding flat-left flat-answer
   absent h = rw (le-ltb c (length D) h) (refl, refl)
 
   module _ (h : c < length D) where
-    pub no-room : fits (row-count D c) (unit-count D c) (length old) ≡ false → Answers D c old (refused 13 0) old
+    pub no-room : fits (row-count D c) (unit-count D c) (length old) ≡ false → Answers D c old (refused (refusal Fault.Room 0)) old
     unfolding flat-left flat-answer
     no-room e = rw (lt-ltb c (length D) h, e) (refl, refl)
 

@@ -5,7 +5,8 @@ use mathlib.Core.Bool.{Bool, cond, _&&_}
 use mathlib.Core.List.{List, _++_}
 use lib.ListN.{length, drop}
 use lib.Dec.{ltb, leb}
-use Rattle.answers.specs.Answer.{Answer, accepted, refused, then}
+use Rattle.answers.specs.Fault as Fault
+use Rattle.answers.specs.Answer.{Answer, accepted, refused, then, refusal, left}
 use Rattle.timeline.specs.Design.{Design}
 use Rattle.timeline.specs.Flat.{row-count, unit-count, rows}
 use Rattle.verdict.specs.Judgement.{judgement}
@@ -21,17 +22,12 @@ unfoldable pub flat-answer : Design → (asked room : ℕ) → Answer ℕ
 flat-answer D asked room =
     cond
     (ltb asked (length D))
-    (cond (fits (row-count D asked) (unit-count D asked) room) (accepted (row-count D asked)) (refused 13 0))
-    (refused 14 asked)
+    (cond (fits (row-count D asked) (unit-count D asked) room) (accepted (row-count D asked)) (refused (refusal Fault.Room 0)))
+    (refused (refusal Fault.Absent asked))
 
 -- "Listing judges the whole file first."
 unfoldable pub list-answer : (file : List ℕ) → (lent asked room : ℕ) → Answer ℕ
 list-answer file lent asked room = then (judgement file lent) (λ k. flat-answer (design-of file (k .records)) asked room)
-
--- What is left where a call was accepted, and "a refusal: lent output keeps every byte".
-abbrev pub left : {A : Type 0} → Answer A → (A → List ℕ) → List ℕ → List ℕ
-left (accepted a) new old = new a
-left (refused n p) new old = old
 
 unfoldable pub flat-left : Design → (asked : ℕ) → (old : List ℕ) → List ℕ
 flat-left D asked old = left (flat-answer D asked (length old)) (λ n. rows-bytes (rows D asked) ++ drop (8 * n) old) old

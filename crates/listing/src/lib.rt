@@ -1,8 +1,8 @@
 // The flat listing of one component of a judged file: when each of its leaf units starts.
-use answers::Fault;
 use answers::Refusal;
 use answers::Verdict;
 use answers::Written;
+use answers::fault;
 use verdict::Opening;
 ghost use mathlib.Core.Path.{_≡_};
 ghost use Prim.Native.Nat.{ℕ, _<_};
@@ -16,12 +16,6 @@ fn index(x: u16) -> usize
     ensures { λ r. ⌜ (r ≡ x) × (r < 65536) ⌝ }
 {
     x as usize
-}
-
-fn refused(fault: Fault, position: usize) -> Written
-    ensures { λ r. ⌜ r ≡ Written.Refused (record { fault = fault; position = position }) ⌝ }
-{
-    Written::Refused(Refusal { fault, position })
 }
 
 // Whether so many rows and units are listed, and the rows find room.
@@ -44,7 +38,7 @@ fn list_opened(
     ensures { λ r. ⌜ (written r ≡ flat-answer (design-of (now (file .entry)) records) asked (length (now (out .entry)))) × (now (out .exit) ≡ flat-left (design-of (now (file .entry)) records) asked (now (out .entry))) ⌝ }
 {
     if components <= asked {
-        return refused(Fault::Absent, asked);
+        return Written::Refused(Refusal::at(fault::ABSENT, asked));
     }
     let mut rows = [0u16; 64];
     let mut units = [0u16; 64];
@@ -69,7 +63,7 @@ fn list_opened(
         expansion::write(&noted, &ends, asked, 8 * index(n), out);
         return Written::Done(index(n));
     }
-    refused(Fault::Room, 0)
+    Written::Refused(Refusal::at(fault::ROOM, 0))
 }
 
 // The unit starts of one component of a file that has been judged, eight bytes each: how many, or the first refusal.

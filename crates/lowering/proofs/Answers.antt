@@ -9,7 +9,8 @@ use native.Mathlib.Decide.{decLt}
 use lib.ListN.{length, drop}
 use lib.Dec.{ltb}
 use borrow.Author.Tests.{ltb-true, lt-ltb, le-ltb}
-use Rattle.answers.specs.Answer.{accepted, refused}
+use Rattle.answers.specs.Fault as Fault
+use Rattle.answers.specs.Answer.{accepted, refused, refusal}
 use Rattle.numbers.specs.Tests.{and-both}
 use Rattle.timeline.specs.Design.{Design, Class, leaf, built, class}
 use Rattle.reading.specs.Tests.{is-built}
@@ -21,7 +22,7 @@ use Rattle.groups.specs.Groups.{design-of, Opened}
 use Rattle.groups.proofs.Laws.{row-is}
 use Rattle.control.specs.declared.Built.{Built}
 use Rattle.control.specs.Stands.{all-rows, Stands}
-use Rattle.lowering.specs.Answer.{component-rows, left}
+use Rattle.lowering.specs.Answer.{component-rows, over}
 use Rattle.lowering.proofs.Parts.{rows-total}
 
 pub built-class : (k : Class) → is-built k ≡ true → k ≡ built
@@ -50,11 +51,11 @@ module _ {file table : List ℕ} {n : ℕ} (h : Opened file table n) (components
       (ltb-true c components (p .0), built-class (class D c) (q .1))
 
   module _ (room : ℕ) where
-    pub absent : found ≡ false → component-rows D c room ≡ refused 14 c
+    pub absent : found ≡ false → component-rows D c room ≡ refused (refusal Fault.Absent c)
     unfolding component-rows
     absent t = rw (sym found-is ∙ t)
 
-    pub short : found ≡ true → room < 16 * length (rows D c) → component-rows D c room ≡ refused 13 0
+    pub short : found ≡ true → room < 16 * length (rows D c) → component-rows D c room ≡ refused (refusal Fault.Room 0)
     unfolding component-rows
     short t l = rw (sym found-is ∙ t, lt-ltb room (16 * length (rows D c)) l)
 
@@ -74,7 +75,7 @@ module _ {file table : List ℕ} {b : Built} (h : Stands file table b) {n c : �
     pub count-is : count ≡ length (rows (design-of file n) c)
     count-is = let t = rows-total h in let k = ap length its-rows in omega arith
 
-    pub rows-written : (ys d : List ℕ) → ys ≡ rows-bytes (all-rows file b) → ys ++ drop (16 * count - 0) d ≡ left (accepted (rows (design-of file n) c)) d
+    pub rows-written : (ys d : List ℕ) → ys ≡ rows-bytes (all-rows file b) → ys ++ drop (16 * count - 0) d ≡ over d (rows (design-of file n) c)
     rows-written ys d y =
         let k = count-is in
         let z : 16 * count - 0 ≡ 16 * length (rows (design-of file n) c) = omega arith in

@@ -1,19 +1,19 @@
 // The control rows of one built component of a judged file, written into lent bytes.
-use answers::Fault;
 use answers::Refusal;
 use answers::Verdict;
 use answers::Written;
+use answers::fault;
 use control::Built;
 use verdict::Opening;
 ghost use mathlib.Core.Path.{_≡_};
 ghost use Prim.Native.Nat.{ℕ, _*_, _<_};
 ghost use lib.ListN.{length};
 ghost use Rattle.timetable.specs.Bytes.{rows-bytes};
-ghost use Rattle.answers.specs.Answer.{written, judged};
+ghost use Rattle.answers.specs.Answer.{left, written, judged};
 ghost use Rattle.verdict.specs.Judgement.{judgement, Filled};
 ghost use Rattle.groups.specs.Groups.{design-of, Opened};
 ghost use Rattle.control.specs.Stands.{all-rows, Stands};
-ghost use Rattle.lowering.specs.Answer.{component-rows, how-many, left, lower-answer, lower-left};
+ghost use Rattle.lowering.specs.Answer.{component-rows, how-many, over, lower-answer, lower-left};
 
 fn size(x: u16) -> usize
     ensures { λ r. ⌜ (r ≡ x) × (r < 65536) ⌝ }
@@ -44,12 +44,6 @@ fn put_rows(file: &[u8], rows: &[u16], b: Built, out: &mut [u8])
     );
 }
 
-fn refused(fault: Fault, position: usize) -> Written
-    ensures { λ r. ⌜ r ≡ Written.Refused (record { fault = fault; position = position }) ⌝ }
-{
-    Written::Refused(Refusal { fault, position })
-}
-
 // Of an accepted file.
 fn lower_opened(
     file: &[u8],
@@ -60,18 +54,18 @@ fn lower_opened(
     out: &mut [u8],
 ) -> Written
     requires { ⌜ Opened (now file) (now rows) records × (components ≡ length (design-of (now file) records)) ⌝ }
-    ensures { λ r. ⌜ (written r ≡ how-many (component-rows (design-of (now (file .entry)) records) asked (length (now (out .entry))))) × (now (out .exit) ≡ left (component-rows (design-of (now (file .entry)) records) asked (length (now (out .entry)))) (now (out .entry))) ⌝ }
+    ensures { λ r. ⌜ (written r ≡ how-many (component-rows (design-of (now (file .entry)) records) asked (length (now (out .entry))))) × (now (out .exit) ≡ left (component-rows (design-of (now (file .entry)) records) asked (length (now (out .entry)))) (over (now (out .entry))) (now (out .entry))) ⌝ }
 {
     if control::can_lower(rows, components, asked) {
         let b = control::built_at(file, rows, components, records, asked);
         let count = 1 + (b.connections - b.invocations) + size(b.outputs);
         if out.len() < 16 * count {
-            return refused(Fault::Room, 0);
+            return Written::Refused(Refusal::at(fault::ROOM, 0));
         }
         put_rows(file, rows, b, &mut out[0..16 * count]);
         return Written::Done(count);
     }
-    refused(Fault::Absent, asked)
+    Written::Refused(Refusal::at(fault::ABSENT, asked))
 }
 
 // The control rows of one component of a file that has been judged, sixteen bytes each: how many, or the first refusal.

@@ -1,8 +1,8 @@
 // A list of records into the blocks of a file, and back.
 use answers::Counted;
-use answers::Fault;
 use answers::Refusal;
 use answers::Written;
+use answers::fault;
 ghost use mathlib.Core.Path.{_≡_};
 ghost use mathlib.Core.List.{_++_};
 ghost use Prim.Native.Nat.{_+_, _*_, _/_, _≤_, _<_, min};
@@ -11,7 +11,7 @@ ghost use Rattle.answers.specs.Answer.{written};
 ghost use Rattle.blocks.specs.File.{block-count, record-count};
 ghost use Rattle.blocks.specs.Sound.{Sound};
 ghost use Rattle.packing.specs.Packed.{counting, filled, list-allowed, Listed, blocks-for, packed, unpacked};
-ghost use Rattle.packing.specs.Answer.{pack-answer, unpack-answer, kept-or-written};
+ghost use Rattle.packing.specs.Answer.{pack-answer, unpack-answer, pack-left, unpack-left};
 
 fn index(x: u8) -> usize
     ensures { λ r. ⌜ (r ≡ x) × (r < 256) ⌝ }
@@ -87,26 +87,20 @@ fn list_allowed(len: usize) -> bool
     (16 <= len) & (len <= 63488) & (len % 16 == 0)
 }
 
-fn refused(fault: Fault) -> Written
-    ensures { λ r. ⌜ r ≡ Written.Refused (record { fault = fault; position = 0 }) ⌝ }
-{
-    Written::Refused(Refusal { fault, position: 0 })
-}
-
 // The file of a list of records: how many bytes it takes, or refusal 1 or 13.
 pub fn pack(list: &[u8], out: &mut [u8]) -> Written
-    ensures { λ r. ⌜ (written r ≡ pack-answer (now (list .entry)) (length (now (out .entry)))) × (now (out .exit) ≡ kept-or-written (pack-answer (now (list .entry)) (length (now (out .entry)))) (packed (now (list .entry))) (now (out .entry))) ⌝ }
+    ensures { λ r. ⌜ (written r ≡ pack-answer (now (list .entry)) (length (now (out .entry)))) × (now (out .exit) ≡ pack-left (now (list .entry)) (now (out .entry))) ⌝ }
 {
     let size = list.len();
     if list_allowed(size) {
         let n = (size + 495) / 496;
         if out.len() < 512 * n {
-            return refused(Fault::Room);
+            return Written::Refused(Refusal::at(fault::ROOM, 0));
         }
         put_blocks(list, n, out);
         return Written::Done(512 * n);
     }
-    refused(Fault::Length)
+    Written::Refused(Refusal::at(fault::LENGTH, 0))
 }
 
 // The used slots of a file's blocks, one after the other.
@@ -125,13 +119,13 @@ fn put_records(file: &[u8], n: usize, out: &mut [u8])
 
 // The list of records of a file: how many bytes it takes, or refusal 1, 2, 3 or 13.
 pub fn unpack(file: &[u8], out: &mut [u8]) -> Written
-    ensures { λ r. ⌜ (written r ≡ unpack-answer (now (file .entry)) (length (now (out .entry)))) × (now (out .exit) ≡ kept-or-written (unpack-answer (now (file .entry)) (length (now (out .entry)))) (unpacked (now (file .entry))) (now (out .entry))) ⌝ }
+    ensures { λ r. ⌜ (written r ≡ unpack-answer (now (file .entry)) (length (now (out .entry)))) × (now (out .exit) ≡ unpack-left (now (file .entry)) (now (out .entry))) ⌝ }
 {
     match blocks::sound(file) {
         Counted::Records(records) => {
             let size = 16 * records;
             if out.len() < size {
-                return refused(Fault::Room);
+                return Written::Refused(Refusal::at(fault::ROOM, 0));
             }
             put_records(file, file.len() / 512, out);
             Written::Done(size)

@@ -11,7 +11,7 @@ use Rattle.entry.specs.Records.{invocation, argument, Record}
 use Rattle.reading.specs.Place as Reading
 use Rattle.reading.specs.Place.{moved}
 use Rattle.reading.specs.Reader.{Row, reads, tests}
-use Rattle.rules.specs.Lowest.{lowest}
+use Rattle.rules.specs.Failed.{first-failed}
 use Rattle.order.specs.declared.Place.{Place}
 use Rattle.order.specs.Seen.{seen}
 use Rattle.reader.specs.declared.Reader.{Reader}
@@ -54,13 +54,13 @@ module _ (v : Signature) (instances offsets outputs firsts : List ℕ) (r : Read
   kept-invocation q s n k j a b f m d g h i l o y x w = rw (w, x, g, h, i, l, o, y)
 
 -- Refused, or gone on.
-module _ (look : ℕ → Design.Port) (s : State) (p : ℕ) (x : Record) (m n : ℕ) (s′ : State) (is : n ≡ lowest (tests look (reads (viewed none s)) x)) where
+module _ (look : ℕ → Design.Port) (s : State) (p : ℕ) (x : Record) (m n : ℕ) (s′ : State) (is : n ≡ first-failed (tests look (reads (viewed none s)) x)) where
   pub refused-turn : m ≡ n → n ≢ 0 → Turned look s p x m s′
-  refused-turn e d = record { lowest-is = e ∙ is; goes-on = λ z. absurd (d (sym e ∙ z)); input-record = λ z. absurd (d (sym e ∙ z)) }
+  refused-turn e d = record { number-is = e ∙ is; goes-on = λ z. absurd (d (sym e ∙ z)); input-record = λ z. absurd (d (sym e ∙ z)) }
 
   -- Whatever the number is, nothing changes.
   pub kept-turn : m ≡ n → s′ ≡ went s x → (went s x) .input-record ≤ 65536 + (p + 1) → Turned look s p x m s′
-  kept-turn e f b = record { lowest-is = e ∙ is; goes-on = λ y. f; input-record = λ y. rw f b }
+  kept-turn e f b = record { number-is = e ∙ is; goes-on = λ y. f; input-record = λ y. rw f b }
 
   pub went-turn : m ≡ 0 → n ≡ 0 → s′ ≡ went s x → (went s x) .input-record ≤ 65536 + (p + 1) → Turned look s p x m s′
   went-turn e z f b = kept-turn (e ∙ sym z) f b

@@ -11,7 +11,7 @@ use Rattle.reading.specs.Tests.{is-built}
 use Rattle.reading.specs.Place.{Place, begun, moved}
 use Rattle.reading.specs.Reader as Reading
 use Rattle.reading.specs.Reader.{Row, tests}
-use Rattle.rules.specs.Lowest.{lowest}
+use Rattle.rules.specs.Failed.{first-failed}
 use Rattle.order.specs.Seen.{seen, closed}
 use Rattle.reader.specs.declared.Reader.{Reader}
 use Rattle.reader.specs.Rows.{none}
@@ -229,6 +229,6 @@ pub record Few (r : Reader) : Type 0 where
 
 -- After record x, number p, in state s: the number of its refusal, and the next state where there is none.
 pub record Turned (look : ℕ → Port) (s : State) (p : ℕ) (x : Record) (refusal : ℕ) (s′ : State) : Type 0 where
-  pub lowest-is : refusal ≡ lowest (tests look (Reading.reads (viewed none s)) x)
+  pub number-is : refusal ≡ first-failed (tests look (Reading.reads (viewed none s)) x)
   pub goes-on : refusal ≡ 0 → s′ ≡ went s x
   pub input-record : refusal ≡ 0 → s′ .input-record ≤ 65536 + (p + 1)

@@ -1,5 +1,6 @@
 // The reader of a component's records: what it keeps, which refusal a record meets with, and what it keeps after a record that meets with none.
 // The definitions are those of `specs/State.antt`; the theory of reading says what they are good for.
+use answers::fault;
 use order::Place;
 use records::Class;
 use records::Port;
@@ -18,7 +19,7 @@ ghost use Rattle.reading.specs.Tests.{is-built};
 ghost use Rattle.reading.specs.Reader.{reads, tests, part-tests, source-tests};
 ghost use Rattle.reading.specs.Reads.{Ranged};
 ghost use Rattle.records.specs.Says.{says, source, port, class};
-ghost use Rattle.rules.specs.Lowest.{lowest};
+ghost use Rattle.rules.specs.Failed.{first-failed};
 ghost use Rattle.rules.specs.Calls.{no-look};
 ghost use Rattle.rules.specs.Known.{Known};
 ghost use Rattle.look.specs.Look.{look};
@@ -124,59 +125,63 @@ pub fn put_row(rows: &mut [u16], c: usize, s: Signature)
 // 5 and 6 of a component record.
 fn component_refusal(r: Reader) -> u8
     requires { ⌜ Few r ⌝ }
-    ensures { λ n. ⌜ n ≡ lowest (tests no-look (reads (bare r)) (component leaf 0)) ⌝ }
+    ensures { λ n. ⌜ n ≡ first-failed (tests no-look (reads (bare r)) (component leaf 0)) ⌝ }
 {
     let place = r.place;
-    rules::first(place.may_end(), 5, rules::first(r.number + 1 < 64, 6, 0))
+    rules::first(
+        place.may_end(),
+        fault::PLACE,
+        rules::first(r.number + 1 < 64, fault::TOO_MANY, 0),
+    )
 }
 
 fn input_refusal(r: Reader, p: Port) -> u8
     requires { ⌜ Few r ⌝ }
-    ensures { λ n. ⌜ n ≡ lowest (part-tests no-look (bare r) (input (port p))) ⌝ }
+    ensures { λ n. ⌜ n ≡ first-failed (part-tests no-look (bare r) (input (port p))) ⌝ }
 {
     let place = r.place;
     if !place.may_input() {
-        return 5;
+        return fault::PLACE;
     }
     if !place.room_for_input() {
-        return 6;
+        return fault::TOO_MANY;
     }
     if !rules::interval_kept(p, half(r.delay)) {
-        return 9;
+        return fault::INTERVAL;
     }
     0
 }
 
 fn output_refusal(r: Reader, q: Port) -> u8
     requires { ⌜ Few r ⌝ }
-    ensures { λ n. ⌜ n ≡ lowest (part-tests no-look (bare r) (output (port q))) ⌝ }
+    ensures { λ n. ⌜ n ≡ first-failed (part-tests no-look (bare r) (output (port q))) ⌝ }
 {
     let place = r.place;
     if !place.may_output() {
-        return 5;
+        return fault::PLACE;
     }
     if !place.room_for_output() {
-        return 6;
+        return fault::TOO_MANY;
     }
     if !rules::interval_kept(q, half(r.delay)) {
-        return 9;
+        return fault::INTERVAL;
     }
     0
 }
 
 // c: the component that it is an instance of.
 fn instance_refusal(r: Reader, c: u16) -> u8
-    ensures { λ n. ⌜ n ≡ lowest (part-tests no-look (bare r) (instance c)) ⌝ }
+    ensures { λ n. ⌜ n ≡ first-failed (part-tests no-look (bare r) (instance c)) ⌝ }
 {
     let place = r.place;
     if !place.may_instance() {
-        return 5;
+        return fault::PLACE;
     }
     if !place.room_for_instance() {
-        return 6;
+        return fault::TOO_MANY;
     }
     if r.number <= size(c) {
-        return 7;
+        return fault::REFERENCE;
     }
     0
 }
@@ -193,14 +198,14 @@ fn invocation_refusal(
     greatest: u16,
 ) -> u8
     requires { ⌜ Few r × (k < 1024) × Known (now instances) (now offsets) (r .place .invocations) n least greatest ⌝ }
-    ensures { λ x. ⌜ x ≡ lowest (part-tests no-look (viewed none (state r (λ m. row v) (now (instances .entry)) (now (offsets .entry)) [] [])) (invocation (record { instance = n; offset = k }))) ⌝ }
+    ensures { λ x. ⌜ x ≡ first-failed (part-tests no-look (viewed none (state r (λ m. row v) (now (instances .entry)) (now (offsets .entry)) [] [])) (invocation (record { instance = n; offset = k }))) ⌝ }
 {
     let place = r.place;
     if !place.may_invocation() {
-        return 5;
+        return fault::PLACE;
     }
     if 64 <= place.invocations {
-        return 6;
+        return fault::TOO_MANY;
     }
     rules::invocation_refusal(
         place.instances,
@@ -229,13 +234,13 @@ fn source_refusal(
     firsts: &[u32; 64],
 ) -> u8
     requires { ⌜ (Source-range (source x)) × Few r × (24 ≤ length (now file)) × Near (now firsts) ⌝ }
-    ensures { λ n. ⌜ n ≡ lowest (source-tests (look (now (file .entry))) (viewed none (state r none [] (now (offsets .entry)) (now (outputs .entry)) (now (firsts .entry)))) before (source x) (port q) k) ⌝ }
+    ensures { λ n. ⌜ n ≡ first-failed (source-tests (look (now (file .entry))) (viewed none (state r none [] (now (offsets .entry)) (now (outputs .entry)) (now (firsts .entry)))) before (source x) (port q) k) ⌝ }
 {
     match x {
         Source::Own(i) => {
             let place = r.place;
             if place.inputs <= size(i) {
-                return 7;
+                return fault::REFERENCE;
             }
             let p = look::port_in(file, r.first + 1 + size(i));
             rules::fed_refusal(p, 0, q, k)
@@ -243,10 +248,10 @@ fn source_refusal(
         Source::Output(j, o) => {
             let at = size(j);
             if before <= at {
-                return 7;
+                return fault::REFERENCE;
             }
             if outputs[at] <= o {
-                return 7;
+                return fault::REFERENCE;
             }
             let p = look::port_in(file, size32(firsts[at]) + size(o));
             rules::fed_refusal(p, offsets[at], q, k)
@@ -264,11 +269,11 @@ fn argument_refusal(
     firsts: &[u32; 64],
 ) -> u8
     requires { ⌜ (Source-range (source x)) × Few r × (r .input < 1048576) × (0 < r .place .due → r .place .built ≡ true) × (24 ≤ length (now file)) × Near (now firsts) ⌝ }
-    ensures { λ n. ⌜ n ≡ lowest (part-tests (look (now (file .entry))) (viewed none (state r none [] (now (offsets .entry)) (now (outputs .entry)) (now (firsts .entry)))) (argument (source x))) ⌝ }
+    ensures { λ n. ⌜ n ≡ first-failed (part-tests (look (now (file .entry))) (viewed none (state r none [] (now (offsets .entry)) (now (outputs .entry)) (now (firsts .entry)))) (argument (source x))) ⌝ }
 {
     let place = r.place;
     if !place.may_argument() {
-        return 5;
+        return fault::PLACE;
     }
     let q = look::port_in(file, r.input);
     let before = one_less(place.invocations);
@@ -294,11 +299,11 @@ fn connection_refusal(
     firsts: &[u32; 64],
 ) -> u8
     requires { ⌜ (Source-range (source x)) × Few r × (24 ≤ length (now file)) × Near (now firsts) ⌝ }
-    ensures { λ n. ⌜ n ≡ lowest (part-tests (look (now (file .entry))) (viewed none (state r none [] (now (offsets .entry)) (now (outputs .entry)) (now (firsts .entry)))) (connection (source x))) ⌝ }
+    ensures { λ n. ⌜ n ≡ first-failed (part-tests (look (now (file .entry))) (viewed none (state r none [] (now (offsets .entry)) (now (outputs .entry)) (now (firsts .entry)))) (connection (source x))) ⌝ }
 {
     let place = r.place;
     if !place.may_connection() {
-        return 5;
+        return fault::PLACE;
     }
     let q = look::port_in(file, r.first + 1 + place.inputs + place.connections);
     source_refusal(
@@ -502,7 +507,7 @@ pub fn turn(
             let place = r.place;
             answered(0, moved(r, place.connection()))
         }
-        Record::Wrong => answered(4, r),
+        Record::Wrong => answered(fault::RECORD, r),
     }
 }
 

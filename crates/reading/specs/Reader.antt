@@ -5,6 +5,7 @@ use Prim.Native.Nat.{ℕ, _+_, _-_, _^_}
 use mathlib.Core.Bool.{Bool, true, false, _&&_, _||_, not}
 use mathlib.Core.List.{[], _∷_}
 use lib.Dec.{eqb, ltb, leb}
+use Rattle.answers.specs.Fault as Fault
 use Rattle.timeline.specs.Design.{Port, Source, own, output-of, constant}
 use Rattle.entry.specs.Records.{Part, input, output, instance, invocation, argument, connection, Record, wrong, component, part}
 use Rattle.reading.specs.Tests.{every-below}
@@ -48,10 +49,10 @@ contains p a q b = leb (a + p .start) (b + q .start) && leb (b + q .end) (a + p 
 
 -- 7, 8 and 12: port p, its event at cycle a, is read at port q, its event at cycle k.
 abbrev pub fed-tests : (there : Bool) → Port → ℕ → Port → ℕ → Tests
-fed-tests there p a q k = (7, there) ∷ (8, eqb (p .width) (q .width)) ∷ (12, contains p a q k) ∷ []
+fed-tests there p a q k = (Fault.Reference, there) ∷ (Fault.Width, eqb (p .width) (q .width)) ∷ (Fault.Reading, contains p a q k) ∷ []
 
 abbrev pub constant-tests : ℕ → Port → Tests
-constant-tests v q = (7, true) ∷ (8, ltb v (2 ^ (q .width))) ∷ (12, true) ∷ []
+constant-tests v q = (Fault.Reference, true) ∷ (Fault.Width, ltb v (2 ^ (q .width))) ∷ (Fault.Reading, true) ∷ []
 
 -- look n: the port that record n says, read lightly.
 module _ (look : ℕ → Port) (r : Reader) where
@@ -69,34 +70,34 @@ module _ (look : ℕ → Port) (r : Reader) where
 
   abbrev pub invocation-tests : (n k d : ℕ) → Tests
   invocation-tests n k d =
-      (7, ltb n (r .place .instances))
-      ∷ (10, every-below (stands-apart n k d) (r .place .invocations))
-      ∷ (11, leb d (r .delay) && every-below (within-span n k d) (r .place .invocations))
+      (Fault.Reference, ltb n (r .place .instances))
+      ∷ (Fault.Spacing, every-below (stands-apart n k d) (r .place .invocations))
+      ∷ (Fault.Span, leb d (r .delay) && every-below (within-span n k d) (r .place .invocations))
       ∷ []
 
-  -- The tests at a record in range, in the order of their numbers.
+  -- The tests at a record in range, in the order of the table.
   abbrev pub part-tests : Part → Tests
-  part-tests (input p) = (5, may (r .place) (input p)) ∷ (6, ltb (r .place .inputs) 16) ∷ (9, leb (p .end) (p .start + r .delay)) ∷ []
-  part-tests (output p) = (5, may (r .place) (output p)) ∷ (6, ltb (r .place .outputs) 16) ∷ (9, leb (p .end) (p .start + r .delay)) ∷ []
-  part-tests (instance n) = (5, may (r .place) (instance n)) ∷ (6, ltb (r .place .instances) 32) ∷ (7, ltb n (r .number)) ∷ []
+  part-tests (input p) = (Fault.Place, may (r .place) (input p)) ∷ (Fault.TooMany, ltb (r .place .inputs) 16) ∷ (Fault.Interval, leb (p .end) (p .start + r .delay)) ∷ []
+  part-tests (output p) = (Fault.Place, may (r .place) (output p)) ∷ (Fault.TooMany, ltb (r .place .outputs) 16) ∷ (Fault.Interval, leb (p .end) (p .start + r .delay)) ∷ []
+  part-tests (instance n) = (Fault.Place, may (r .place) (instance n)) ∷ (Fault.TooMany, ltb (r .place .instances) 32) ∷ (Fault.Reference, ltb n (r .number)) ∷ []
   part-tests (invocation v) =
-      (5, may (r .place) (invocation v)) ∷ (6, ltb (r .place .invocations) 64) ∷ invocation-tests (v .instance) (v .offset) ((r .held (v .instance)) .delay)
-  part-tests (argument x) = (5, may (r .place) (argument x)) ∷ source-tests (r .place .invocations - 1) x (look (r .input-record)) (r .due-offset)
+      (Fault.Place, may (r .place) (invocation v)) ∷ (Fault.TooMany, ltb (r .place .invocations) 64) ∷ invocation-tests (v .instance) (v .offset) ((r .held (v .instance)) .delay)
+  part-tests (argument x) = (Fault.Place, may (r .place) (argument x)) ∷ source-tests (r .place .invocations - 1) x (look (r .input-record)) (r .due-offset)
   part-tests (connection x) =
-      (5, may (r .place) (connection x)) ∷ source-tests (r .place .invocations) x (look (r .first + 1 + r .place .inputs + r .place .connections)) 0
+      (Fault.Place, may (r .place) (connection x)) ∷ source-tests (r .place .invocations) x (look (r .first + 1 + r .place .inputs + r .place .connections)) 0
 
 module _ (look : ℕ → Port) where
   abbrev pub tests : View → Record → Tests
-  tests waits wrong = (4, false) ∷ []
-  tests waits (component k d) = (4, true) ∷ []
-  tests waits (part x) = (4, true) ∷ (5, false) ∷ []
-  tests (reads r) wrong = (4, false) ∷ []
-  tests (reads r) (component k d) = (4, true) ∷ (5, may-end (r .place)) ∷ (6, ltb (r .number + 1) 64) ∷ []
-  tests (reads r) (part x) = (4, true) ∷ part-tests look r x
+  tests waits wrong = (Fault.Record, false) ∷ []
+  tests waits (component k d) = (Fault.Record, true) ∷ []
+  tests waits (part x) = (Fault.Record, true) ∷ (Fault.Place, false) ∷ []
+  tests (reads r) wrong = (Fault.Record, false) ∷ []
+  tests (reads r) (component k d) = (Fault.Record, true) ∷ (Fault.Place, may-end (r .place)) ∷ (Fault.TooMany, ltb (r .number + 1) 64) ∷ []
+  tests (reads r) (part x) = (Fault.Record, true) ∷ part-tests look r x
 
 abbrev pub ends : View → Tests
-ends waits = (5, false) ∷ []
-ends (reads r) = (5, may-end (r .place)) ∷ []
+ends waits = (Fault.Place, false) ∷ []
+ends (reads r) = (Fault.Place, may-end (r .place)) ∷ []
 
 abbrev pub count : View → ℕ
 count waits = 0

@@ -5,13 +5,14 @@ use mathlib.Core.Path.{_≡_}
 use mathlib.Core.List.{List, [], _∷_}
 use lib.ListN.{length, getD}
 use lib.Dec.{T}
+use Rattle.answers.specs.Answer.{Answer, Counts}
 use Rattle.timeline.specs.Design.{Port}
 use Rattle.entry.specs.Records.{Record, wrong, component, part, input, output}
 use Rattle.entry.specs.Numbers.{At}
 use Rattle.entry.specs.Asks.{In-range}
-use Rattle.entry.specs.Answers.{Answer}
 use Rattle.reading.specs.Scan.{Tests, scan, final}
 use Rattle.reading.specs.Reader.{View, tests, ends, count}
+use Rattle.reading.specs.Told.{told}
 use Rattle.reading.specs.Step.{Step}
 
 -- Every test passes.
@@ -37,8 +38,8 @@ module _ (S : Type 0) (view : S → View) (next : S → ℕ → Record → S) (O
     pub keeps : (s : S) (p : ℕ) (r : Record) → Own s → At file p r → Passes (tests look (view s) r) → Step (view s) p r (view (next s p r)) × Own (next s p r)
 
   -- What it answers from record p on, and its last state.
-  abbrev pub answer : S → ℕ → List Record → Answer
-  answer s p rs = scan S (λ t. tests look (view t)) (λ t. ends (view t)) (λ t. count (view t)) next s p rs
+  abbrev pub answer : S → ℕ → List Record → Answer Counts
+  answer s p rs = scan S (λ t. tests look (view t)) (λ t. ends (view t)) (λ t. told (view t)) (λ t. count (view t)) next s p rs
 
   abbrev pub last-state : S → ℕ → List Record → S
-  last-state s p rs = final S (λ t. tests look (view t)) (λ t. ends (view t)) (λ t. count (view t)) next s p rs
+  last-state s p rs = final S (λ t. tests look (view t)) (λ t. ends (view t)) (λ t. told (view t)) (λ t. count (view t)) next s p rs

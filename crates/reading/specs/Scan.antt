@@ -6,11 +6,13 @@ use mathlib.Core.Bool.{Bool, cond}
 use mathlib.Core.Path.{_≡_}
 use mathlib.Core.List.{List, [], _∷_, _++_}
 use lib.ListN.{length}
+use Rattle.answers.specs.declared.Refusal.{Refusal}
+use Rattle.answers.specs.Answer.{Answer, accepted, refused, Counts}
 use Rattle.entry.specs.Lists.{add-last}
-use Rattle.entry.specs.Records.{Record}
+use Rattle.entry.specs.Records.{Record, wrong}
 use Rattle.entry.specs.Entered.{Entered, enter, said}
 use Rattle.entry.specs.Asks.{Asks, asks, ending}
-use Rattle.entry.specs.Answers.{Answer, accepted, refused}
+use Rattle.entry.specs.Told.{told}
 use Rattle.entry.specs.Laws.{Keeps}
 use Rattle.reading.specs.Tests.{Means}
 
@@ -18,10 +20,10 @@ use Rattle.reading.specs.Tests.{Means}
 abbrev pub Tests : Type 0
 Tests = List (ℕ × Bool)
 
--- Refused at position p with the number of the first test that fails; and answer k if they all pass.
-unfoldable pub tried : Tests → ℕ → Answer → Answer
-tried [] p k = k
-tried (t ∷ rest) p k = cond (t .1) (tried rest p k) (refused (t .0) p)
+-- Refused with what is told of the first test that fails; and answer k if they all pass.
+unfoldable pub tried : Tests → (tell : ℕ → Refusal) → (k : Answer Counts) → Answer Counts
+tried [] tell k = k
+tried (t ∷ rest) tell k = cond (t .1) (tried rest tell k) (refused (tell (t .0)))
 
 -- The tests mean the rules, one by one: each where the rules before it hold, so that what is looked up need be right only then.
 abbrev pub Agree : Asks → Tests → Type 0
@@ -30,11 +32,11 @@ Agree [] (t ∷ rest) = ⊥
 Agree (a ∷ l) [] = ⊥
 Agree (a ∷ l) (t ∷ rest) = (a .0 ≡ t .0) × Means (t .1) (a .1) × (a .1 → Agree l rest)
 
--- S: the state. `count` is the number of components where the list ends, `next` takes the number of the record too.
-module _ (S : Type 0) (tests : S → Record → Tests) (ends : S → Tests) (count : S → ℕ) (next : S → ℕ → Record → S) where
-  unfoldable pub scan : S → ℕ → List Record → Answer
-  scan s p [] = tried (ends s) p (accepted (count s) p)
-  scan s p (r ∷ rs) = let k = scan (next s p r) (suc p) rs in tried (tests s r) p k
+-- S: the state. `tells` is what a refusal at a record tells, `count` the number of components where the list ends; `next` takes the number of the record too.
+module _ (S : Type 0) (tests : S → Record → Tests) (ends : S → Tests) (tells : S → Record → (p n : ℕ) → Refusal) (count : S → ℕ) (next : S → ℕ → Record → S) where
+  unfoldable pub scan : S → ℕ → List Record → Answer Counts
+  scan s p [] = tried (ends s) (tells s wrong p) (accepted (record { components = count s; records = p }))
+  scan s p (r ∷ rs) = let k = scan (next s p r) (suc p) rs in tried (tests s r) (tells s r p) k
 
   -- The state where the list ends.
   unfoldable pub final : S → ℕ → List Record → S
@@ -46,5 +48,6 @@ module _ (S : Type 0) (tests : S → Record → Tests) (ends : S → Tests) (cou
     pub record Follows : Type 0 where
       pub at-record : (e : Entered) (done : List Record) (s : S) (r : Record) (rs : List Record) → Fits e done s → file ≡ done ++ (r ∷ rs) → Agree (asks e r) (tests s r)
       pub at-end : (e : Entered) (s : S) → Fits e file s → Agree (ending e) (ends s)
+      pub tells-so : (e : Entered) (done : List Record) (s : S) (r : Record) (n : ℕ) → Fits e done s → told e r (length done) n ≡ tells s r (length done) n
       pub counts : (e : Entered) (s : S) → Fits e file s → Keeps (ending e) → count s ≡ length (said e)
       pub goes-on : (e : Entered) (done : List Record) (s : S) (r : Record) (rs : List Record) → Fits e done s → file ≡ done ++ (r ∷ rs) → Keeps (asks e r) → Fits (enter e r) (add-last done r) (next s (length done) r)

@@ -3,6 +3,8 @@
 mod found;
 mod sources;
 
+use answers::Refusal;
+use answers::fault;
 use found::Standing;
 use parts::NONE;
 use records::Record;
@@ -179,45 +181,47 @@ fn uses(fd: i32, list: &[u8], s: Standing, spacing: bool) {
     }
 }
 
-// 7 to 12, of record p.
-fn rule(fd: i32, list: &[u8], n: u64, p: usize) {
+// Which rule record p breaks, of those that look at other records.
+fn rule(fd: i32, list: &[u8], number: u8, p: usize) {
     let s = found::stands(list, p);
-    match n {
-        7 => reference(fd, list, s),
-        8 => sources::widths(fd, list, s),
-        9 => long(fd, list, s),
-        10 => uses(fd, list, s, true),
-        11 => uses(fd, list, s, false),
+    match number {
+        fault::REFERENCE => reference(fd, list, s),
+        fault::WIDTH => sources::widths(fd, list, s),
+        fault::INTERVAL => long(fd, list, s),
+        fault::SPACING => uses(fd, list, s, true),
+        fault::SPAN => uses(fd, list, s, false),
         _ => sources::reading(fd, list, s),
     }
 }
 
-// The sentence for refusal n at position p of a file of so many bytes, whose record list is given where its blocks pass.
-pub fn reason(fd: i32, bytes: usize, list: &[u8], n: u64, p: usize) {
-    match n {
-        1 => length(fd, bytes),
-        2 => in_block(
+// The sentence for the refusal of a file of so many bytes, whose record list is given where its blocks pass.
+pub fn reason(fd: i32, bytes: usize, list: &[u8], r: Refusal) {
+    let number = r.number;
+    let p = r.position;
+    match number {
+        fault::LENGTH => length(fd, bytes),
+        fault::CHECK => in_block(
             fd,
             p,
             b": its last four bytes are not the check of those before",
         ),
-        3 => in_block(
+        fault::HEADER => in_block(
             fd,
             p,
             b": its header, an unused slot or its spare bytes are not as they have to be",
         ),
-        4 => {
+        fault::RECORD => {
             in_record(fd, p);
             io::write_all(fd, b"its kind, a number's range or a zero byte is wrong");
         }
-        5 => place(fd, list, p),
-        6 => {
+        fault::PLACE => place(fd, list, p),
+        fault::TOO_MANY => {
             in_record(fd, p);
             too_many(fd, list, p);
         }
         _ => {
             in_record(fd, p);
-            rule(fd, list, n, p);
+            rule(fd, list, number, p);
         }
     }
     io::write_all(fd, b"\n");

@@ -4,9 +4,8 @@ use answers::Verdict;
 
 // "A refusal prints only `refused 11 at 12`, with its numbers."
 pub fn refusal(fd: i32, r: Refusal) {
-    let fault = r.fault;
     io::write_all(fd, b"refused ");
-    io::print_decimal(fd, fault.number());
+    io::print_decimal(fd, r.number as u64);
     io::write_all(fd, b" at ");
     io::print_decimal(fd, r.position as u64);
     io::write_all(fd, b"\n");

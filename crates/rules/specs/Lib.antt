@@ -1,3 +1,3 @@
-pub mod Lowest
+pub mod Failed
 pub mod Calls
 pub mod Known

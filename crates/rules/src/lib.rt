@@ -6,9 +6,10 @@ ghost use lib.Dec.{leb, ltb};
 ghost use Rattle.reading.specs.Tests.{every-below};
 ghost use Rattle.reading.specs.Reader.{fed-tests, constant-tests, stands-apart, within-span, invocation-tests};
 ghost use Rattle.records.specs.Says.{port};
-ghost use Rattle.rules.specs.Lowest.{lowest};
+ghost use Rattle.rules.specs.Failed.{first-failed};
 ghost use Rattle.rules.specs.Calls.{no-look, calls};
 ghost use Rattle.rules.specs.Known.{Known};
+use answers::fault;
 use records::Port;
 
 fn size(x: u16) -> usize
@@ -169,19 +170,19 @@ pub fn invocation_refusal(
     greatest: u16,
 ) -> u8
     requires { ⌜ (count ≤ 64) × (k < 65535) × Known (now instance) (now offset) count n least greatest ⌝ }
-    ensures { λ r. ⌜ r ≡ lowest (invocation-tests no-look (calls instances count delay (now (instance .entry)) (now (offset .entry))) n k d) ⌝ }
+    ensures { λ r. ⌜ r ≡ first-failed (invocation-tests no-look (calls instances count delay (now (instance .entry)) (now (offset .entry))) n k d) ⌝ }
 {
     if instances <= size(n) {
-        return 7;
+        return fault::REFERENCE;
     }
     if !keeps_apart(instance, offset, count, n, k, d, least, greatest) {
-        return 10;
+        return fault::SPACING;
     }
     if delay < d {
-        return 11;
+        return fault::SPAN;
     }
     if !keeps_within(instance, offset, count, n, k, d, delay, least, greatest) {
-        return 11;
+        return fault::SPAN;
     }
     0
 }
@@ -189,16 +190,16 @@ pub fn invocation_refusal(
 // 8 and 12 of port p, its event at cycle a, that is read at port q, its event at cycle k.
 // 12: "The source's interval contains the required one."
 pub fn fed_refusal(p: Port, a: u16, q: Port, k: u16) -> u8
-    ensures { λ r. ⌜ r ≡ lowest (fed-tests true (port p) a (port q) k) ⌝ }
+    ensures { λ r. ⌜ r ≡ first-failed (fed-tests true (port p) a (port q) k) ⌝ }
 {
     if p.width != q.width {
-        return 8;
+        return fault::WIDTH;
     }
     if wide(k) + wide(q.start) < wide(a) + wide(p.start) {
-        return 12;
+        return fault::READING;
     }
     if wide(a) + wide(p.end) < wide(k) + wide(q.end) {
-        return 12;
+        return fault::READING;
     }
     0
 }
@@ -215,7 +216,15 @@ fn below(v: u64, w: u8) -> bool
 
 // 7, 8 and 12 of a constant that is read at port q.
 pub fn constant_refusal(v: u64, q: Port) -> u8
-    ensures { λ r. ⌜ r ≡ lowest (constant-tests v (port q)) ⌝ }
+    ensures { λ r. ⌜ r ≡ first-failed (constant-tests v (port q)) ⌝ }
 {
-    first(true, 7, first(below(v, q.width), 8, first(true, 12, 0)))
+    first(
+        true,
+        fault::REFERENCE,
+        first(
+            below(v, q.width),
+            fault::WIDTH,
+            first(true, fault::READING, 0),
+        ),
+    )
 }

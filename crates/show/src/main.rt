@@ -1,9 +1,9 @@
 // The file on standard input as text: its records, then the timetable of each built component as a picture; or `refused N at P`, where its
 // blocks do not pass. With `--svg`, the picture of one component as SVG instead: of the last, or of the one whose number follows, which is
 // refusal 14 where it is absent.
-use answers::Fault;
 use answers::Refusal;
 use answers::Written;
+use answers::fault;
 use libc::STDERR_FILENO;
 use libc::STDIN_FILENO;
 use libc::STDOUT_FILENO;
@@ -54,13 +54,7 @@ fn what_is_asked() -> Asked {
 
 fn svg(list: &[u8], c: usize) {
     if !picture::svg(STDOUT_FILENO, list, c) {
-        report::refusal(
-            STDOUT_FILENO,
-            Refusal {
-                fault: Fault::Absent,
-                position: c,
-            },
-        );
+        report::refusal(STDOUT_FILENO, Refusal::at(fault::ABSENT, c));
     }
 }
 

@@ -8,11 +8,11 @@ use mathlib.Core.Path.{_≡_, refl, sym, ap, _∙_}
 use mathlib.Core.List.{List, _++_}
 use mathlib.Core.Logic.{_↔_}
 use lib.ListN.{length, getD}
+use Rattle.answers.specs.Answer.{accepted, Counts}
 use Rattle.timeline.specs.Design.{Design, built, class}
 use Rattle.timeline.specs.Rules.{Lawful}
 use Rattle.entry.specs.Records.{Record, records}
 use Rattle.entry.specs.Entered.{design}
-use Rattle.entry.specs.Answers.{accepted}
 use Rattle.entry.specs.Verdict.{verdict}
 use Rattle.entry.specs.Main.{accepted-exactly, its-records, the-design}
 use Rattle.timetable.specs.Rows.{Row, rows}
@@ -34,19 +34,19 @@ module _ (D : Design) (lawful : Lawful D) where
   wiring = wired D lawful (records D) refl
 
 -- Of an accepted list of records, over the list and the design that it says.
-module _ (rs : List Record) (C R : ℕ) (is-accepted : verdict rs ≡ accepted C R) where
+module _ (rs : List Record) (k : Counts) (is-accepted : verdict rs ≡ accepted k) where
   said : Lawful (design rs) × (records (design rs) ≡ rs)
-  said = its-records rs C R is-accepted
+  said = its-records rs k is-accepted
 
-  pub said-count : length (design rs) ≡ C
+  pub said-count : length (design rs) ≡ k .components
   said-count =
-      let h = (accepted-exactly rs C R) .0 is-accepted in
+      let h = (accepted-exactly rs k) .0 is-accepted in
       ap length (ap design (sym (h .2)) ∙ the-design (h .0) (h .1 .whole)) ∙ h .3
 
-  pub accepted-lowering : (c : ℕ) → c < C → class (design rs) c ≡ built → (S : ℕ → Type 0) → Lowered (design rs) c rs S
+  pub accepted-lowering : (c : ℕ) → c < k .components → class (design rs) c ≡ built → (S : ℕ → Type 0) → Lowered (design rs) c rs S
   accepted-lowering c there = lowered (design rs) (said .0) rs (said .1) c (rw said-count there)
 
-  pub accepted-wiring : (top : ℕ) → top < C → (S : ℕ → Type 0) → Wired (design rs) top rs S
+  pub accepted-wiring : (top : ℕ) → top < k .components → (S : ℕ → Type 0) → Wired (design rs) top rs S
   accepted-wiring top there = wired (design rs) (said .0) rs (said .1) top (rw said-count there)
 
 -- Each row stands in its place, and in each place stands a row that has it.

@@ -5,12 +5,12 @@ use mathlib.Core.Path.{_≡_, refl}
 use mathlib.Core.List.{[], _∷_, map}
 use lib.Dec.{lit<}
 use native.Mathlib.Omega.{arith}
+use Rattle.answers.specs.Answer.{accepted, Counts}
 use Rattle.timeline.specs.Design.{Design, output-of, no-port, no-call, no-component, component, class, delay, input-count, output-count, instance-count, invocation-count, argument-count, input, output, made-of, call, instance, invoked, offset, argument, gives}
 use Rattle.entry.specs.Lists.{add-last, change-last}
 use Rattle.entry.specs.Records.{records, parts, invocations}
 use Rattle.entry.specs.Numbers.{component-number, input-number, output-number, instance-number, invocation-number, argument-number, connection-number}
 use Rattle.entry.specs.Entered.{design, enter-all}
-use Rattle.entry.specs.Answers.{accepted}
 use Rattle.entry.specs.Verdict.{verdict}
 use Rattle.entry.specs.Cases.{squaring, from-to, at-offset, cases}
 use Rattle.entry.specs.Main.{accepted-exactly, starred-cases}
@@ -43,13 +43,16 @@ pub case-A-states : states case-A 1 ≡ 5
 unfolding case-A states own-ends invocation-ends greatest
 case-A-states = refl
 
-case-A-accepted : verdict squaring ≡ accepted 2 16
+abbrev counted : Counts
+counted = record { components = 2; records = 16 }
+
+case-A-accepted : verdict squaring ≡ accepted counted
 unfolding cases
-case-A-accepted = (accepted-exactly squaring 2 16) .1 (starred-cases .0)
+case-A-accepted = (accepted-exactly squaring counted) .1 (starred-cases .0)
 
 pub case-A-lowered : (S : ℕ → Type 0) → Lowered case-A 1 squaring S
 unfolding case-A
-case-A-lowered S = accepted-lowering squaring 2 16 case-A-accepted 1 (lit< tt) refl S
+case-A-lowered S = accepted-lowering squaring counted case-A-accepted 1 (lit< tt) refl S
 
 -- Two cycles after each start, record 13 drives input 0 of the multiplier: the second invocation's first argument, output 0 of the first.
 pub second-driven : (S : ℕ → Type 0) (t : ℕ) → S t → Rows-drive (rows case-A 1) squaring S (t + 2) 0 0 (output-of 0 0) 13 1 t

@@ -23,7 +23,7 @@ use Rattle.verdict.proofs.Rows.{gathers-all}
 -- No more than 64 components, and a row for each in the table.
 few-components : (file : List ℕ) (rows : ℕ) (a : Answer Counts) → a ≡ judgement file rows → (components-of a ≤ 64) × (1 ≤ components-of a → 64 ≤ rows)
 few-components file rows (accepted k) j = let s = said-few file rows k (sym j) in (let l = s .0 in let c = s .1 in omega arith, λ _. s .2)
-few-components file rows (refused n p) j = (omega arith, λ l. absurd (omega arith))
+few-components file rows (refused r) j = (omega arith, λ l. absurd (omega arith))
 
 module _ (file : List ℕ) (rows : ℕ) (table : List Signature) (ns : List ℕ) (a : Answer Counts) (judges : a ≡ judgement file rows) (w : Wanted) (wants : w ≡ every-below (components-of a)) where
   pub may-hold : length table ≡ rows → length ns ≡ 320 → Sound file w × (w .goes ≡ true → 64 ≤ length table) × (5 * (w .place + length (wanted file w)) ≤ length ns)
@@ -40,4 +40,4 @@ module _ (file : List ℕ) (rows : ℕ) (table : List Signature) (ns : List ℕ)
     where
       go : (b : Answer Counts) → b ≡ judgement file rows → Fills b file (kept table) → gathered (zeros 320) table 0 (in-order (components-of b) 0) ≡ opening-rows b file
       go (accepted k) j f = let s = said-few file rows k (sym j) in rw (sym (s .1)) (gathers-all (design (records-of file (k .records))) table f (s .0))
-      go (refused n p) j f = refl
+      go (refused r) j f = refl

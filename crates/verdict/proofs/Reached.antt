@@ -11,13 +11,11 @@ use lib.ListN.{length}
 use lib.Dec.{eqb}
 use borrow.Author.Tests.{eq-eqb, ne-eqb, le-ltb}
 use Rattle.timeline.specs.Design as Design
-use Rattle.answers.specs.Answer as Answers
-use Rattle.answers.specs.Answer.{Answer, Counts}
+use Rattle.answers.specs.Answer.{Answer, accepted, refused, Counts}
 use Rattle.numbers.specs.Numbers.{Bytes}
 use Rattle.blocks.specs.File.{sound}
 use Rattle.entry.specs.Numbers.{component-number}
 use Rattle.entry.specs.Entered.{design}
-use Rattle.entry.specs.Answers.{accepted, refused}
 use Rattle.entry.specs.Verdict.{verdict}
 use Rattle.entry.specs.Main.{accepted-exactly, the-design}
 use Rattle.reading.specs.Changed.{changed, changed-there, changed-below}
@@ -34,7 +32,7 @@ use Rattle.component.specs.Run.{Run, waits, view, rest, Onward}
 use Rattle.component.specs.Component.{Begun as Begun-at, Begins, with-row, run, Goes, Stops, Read}
 use Rattle.component.proofs.Turns.{stay, further}
 use Rattle.verdict.specs.declared.Begun.{Begun}
-use Rattle.verdict.specs.Judgement.{counts, judgement}
+use Rattle.verdict.specs.Judgement.{judgement}
 use Rattle.verdict.specs.Opening.{row-of, Rows-of, Fills}
 use Rattle.verdict.specs.Started.{said, Starts}
 use Rattle.verdict.proofs.Counts.{count-bounds}
@@ -44,16 +42,9 @@ row-is : (D : Design.Design) (c : ℕ) (v : Row) → Row-of (Design.component D 
 unfolding signature Design.class Design.delay Design.input-count Design.output-count
 row-is D c v r = rw (r .built, r .delay, r .inputs, r .outputs, r .first)
 
-judged-so : (file : List ℕ) (rows n : ℕ) → 64 ≤ rows → sound file ≡ Answers.accepted n → judgement file rows ≡ counts (verdict (records-of file n))
+judged-so : (file : List ℕ) (rows n : ℕ) → 64 ≤ rows → sound file ≡ accepted n → judgement file rows ≡ verdict (records-of file n)
 unfolding judgement
 judged-so file rows n l e = rw (le-ltb rows 64 l, e)
-
-small-number : {m : ℕ} → (m ≢ 0 → (4 ≤ m) × (m ≤ 12)) → m ≤ 14
-small-number {m} h = go (ℕ-discrete m 0)
-  where
-    go : Dec (m ≡ 0) → m ≤ 14
-    go (yes z) = omega arith
-    go (no z) = let y = (h z) .1 in omega arith
 
 module _ (n : ℕ) where
   -- How much is left.
@@ -71,9 +62,8 @@ module _ (file : List ℕ) (n : ℕ) where
     pub onward : Onward file n waits 0 (run rows q) (q .at)
 
   pub record Done (f : ℕ → Signature) (q : Progress) : Type 0 where
-    pub range : q .refusal ≢ 0 → (4 ≤ q .refusal) × (q .refusal ≤ 12)
-    pub answer : rest file n waits 0 ≡ cond (eqb (q .refusal) 0) (accepted (q .count) (q .at)) (refused (q .refusal) (q .at))
-    pub filled : q .refusal ≡ 0 → (q .at ≡ n) × Rows-of (design (records-of file n)) f
+    pub answer : rest file n waits 0 ≡ said q
+    pub filled : q .refusal .number ≡ 0 → (q .at ≡ n) × Rows-of (design (records-of file n)) f
 
   abbrev pub Reached : (goes : Bool) → (ℕ → Signature) → Progress → Type 0
   Reached true f q = Going f q
@@ -102,6 +92,9 @@ module _ (file : List ℕ) (n : ℕ) where
         go true r = let l = r .later in let m = r .within in omega arith
         go false r = omega arith
 
+    abbrev counts : Counts
+    counts = record { components = e .progress .count; records = e .progress .at }
+
     module _ (f′ : ℕ → Signature) (stored : (c : ℕ) → f′ c ≡ changed f (e .place) (e .row) c) where
       new : f′ (e .place) ≡ signature (row (e .row))
       new = stored (e .place) ∙ changed-there f (e .place) (e .row) ∙ exact
@@ -125,25 +118,25 @@ module _ (file : List ℕ) (n : ℕ) where
           shown (suc k) y c l = let z : e .place ≡ k = omega arith in same c (omega arith) ∙ ap (λ (p : ℕ). signature (changed (here .rows) p (row (e .row)) c)) z
 
       stops : Stops file n (here .rows) q e → Done f′ (e .progress)
-      stops r = record { range = r .range; answer = here .onward .answer ∙ by-number (ℕ-discrete (e .progress .refusal) 0); filled = λ z. ((r .whole z) .0, rows-there z) }
+      stops r = record { answer = here .onward .answer ∙ by-number (ℕ-discrete (e .progress .refusal .number) 0); filled = λ z. ((r .whole z) .0, rows-there z) }
         where
-          by-number : Dec (e .progress .refusal ≡ 0) → rest file n (run (here .rows) q) (q .at) ≡ cond (eqb (e .progress .refusal) 0) (accepted (e .progress .count) (e .progress .at)) (refused (e .progress .refusal) (e .progress .at))
-          by-number (yes z) = rw (eq-eqb (e .progress .refusal) 0 z) (r .accepts z)
-          by-number (no d) = rw (ne-eqb (e .progress .refusal) 0 d) (r .refuses d)
+          by-number : Dec (e .progress .refusal .number ≡ 0) → rest file n (run (here .rows) q) (q .at) ≡ said (e .progress)
+          by-number (yes z) = rw (eq-eqb (e .progress .refusal .number) 0 z) (r .accepts z)
+          by-number (no d) = rw (ne-eqb (e .progress .refusal .number) 0 d) (r .refuses (omega arith))
 
-          accepts : (z : e .progress .refusal ≡ 0) → rest file n waits 0 ≡ accepted (e .progress .count) (e .progress .at)
+          accepts : (z : e .progress .refusal .number ≡ 0) → rest file n waits 0 ≡ accepted counts
           accepts z = here .onward .answer ∙ r .accepts z
 
           -- As many components as rows.
-          total : (z : e .progress .refusal ≡ 0) → length (design (records-of file n)) ≡ e .place + 1
+          total : (z : e .progress .refusal .number ≡ 0) → length (design (records-of file n)) ≡ e .place + 1
           total z =
-              let h = (accepted-exactly (records-of file n) (e .progress .count) (e .progress .at)) .0 (whole file n few ∙ accepts z) in
+              let h = (accepted-exactly (records-of file n) counts) .0 (whole file n few ∙ accepts z) in
               ap length (ap design (sym (h .2)) ∙ the-design (h .0) (h .1 .whole)) ∙ h .3 ∙ (r .whole z) .1
 
-          rows-there : e .progress .refusal ≡ 0 → Rows-of (design (records-of file n)) f′
+          rows-there : e .progress .refusal .number ≡ 0 → Rows-of (design (records-of file n)) f′
           rows-there z c l =
               let w = (r .whole z) .2 in
-              let t = subst (λ (a : Run). Table-of (design (records-of file n)) (table (view a))) (here .onward .leads ∙ w .leads) (rows-right file n few (e .progress .count) (e .progress .at) (accepts z)) in
+              let t = subst (λ (a : Run). Table-of (design (records-of file n)) (table (view a))) (here .onward .leads ∙ w .leads) (rows-right file n few counts (accepts z)) in
               let y = total z in
               let g : changed (here .rows) (w .final .number) (own-row (w .final)) c ≡ changed (here .rows) (e .place) (row (e .row)) c = ap (λ (p : ℕ). changed (here .rows) p (own-row (w .final)) c) (w .number) ∙ ap (λ (v : Row). changed (here .rows) (e .place) v c) (w .row) in
               same c (omega arith) ∙ ap signature (sym g) ∙ row-is (design (records-of file n)) c _ (t c l)
@@ -157,23 +150,22 @@ module _ (file : List ℕ) (n : ℕ) where
 
 -- What the table of an accepted file is left with.
 filled-done : (file : List ℕ) (f : ℕ → Signature) (n : ℕ) (q : Progress) → Done file n f q → (a : Answer Counts) → a ≡ said q → Fills a file f
-filled-done file f n q d a e = go (ℕ-discrete (q .refusal) 0)
+filled-done file f n q d a e = go (ℕ-discrete (q .refusal .number) 0)
   where
-    go : Dec (q .refusal ≡ 0) → Fills a file f
-    go (yes z) = let w = d .filled z in rw (e, eq-eqb (q .refusal) 0 z, w .0) (w .1)
-    go (no z) = rw (e, ne-eqb (q .refusal) 0 z) tt
+    go : Dec (q .refusal .number ≡ 0) → Fills a file f
+    go (yes z) = let w = d .filled z in rw (e, eq-eqb (q .refusal .number) 0 z, w .0) (w .1)
+    go (no z) = rw (e, ne-eqb (q .refusal .number) 0 z) tt
 
 module _ (file : List ℕ) (rows n : ℕ) where
   -- Of a table with enough rows and sound blocks.
   pub record Working (f : ℕ → Signature) (q : Progress) : Type 0 where
     pub enough : 64 ≤ rows
-    pub counted : sound file ≡ Answers.accepted n
+    pub counted : sound file ≡ accepted n
     pub small : Bytes file
     pub going : Going file n f q
 
   pub record Finished (f : ℕ → Signature) (q : Progress) : Type 0 where
     pub answer : judgement file rows ≡ said q
-    pub numbered : q .refusal ≤ 14
     pub fills : Fills (judgement file rows) file f
 
   abbrev pub Stands : (goes : Bool) → (ℕ → Signature) → Progress → Type 0
@@ -198,8 +190,8 @@ module _ (file : List ℕ) (rows n : ℕ) where
         go : (b : Bool) → Reached file n b f′ (e .progress) → Stands b f′ (e .progress)
         go true r = record { enough = here .enough; counted = here .counted; small = here .small; going = r }
         go false r =
-            let y : judgement file rows ≡ said (e .progress) = judged-so file rows n (here .enough) (here .counted) ∙ ap counts (whole file n holds ∙ r .answer) in
-            record { answer = y; numbered = small-number (r .range); fills = filled-done file f′ n (e .progress) r (judgement file rows) y }
+            let y : judgement file rows ≡ said (e .progress) = judged-so file rows n (here .enough) (here .counted) ∙ whole file n holds ∙ r .answer in
+            record { answer = y; fills = filled-done file f′ n (e .progress) r (judgement file rows) y }
 
   pub stands-done : {f : ℕ → Signature} {q : Progress} → Stands false f q → (a : Answer Counts) → a ≡ said q → (a ≡ judgement file rows) × Fills a file f
   stands-done {f} w a e = let same = e ∙ sym (w .answer) in (same, subst (λ (b : Answer Counts). Fills b file f) (sym same) (w .fills))
@@ -210,5 +202,5 @@ stands-first file rows small b s f = go (b .progress .goes) refl s
     go : (g : Bool) → b .progress .goes ≡ g → Starts file rows b g → Stands file rows (b .records) g f (b .progress)
     go true e t = record { enough = t .enough; counted = t .counted; small = small; going = reached-first file (b .records) f (b .progress) (t .reader) (t .at) (t .count) }
     go false e t =
-        let z : b .progress .refusal ≢ 0 = λ y. absurd (let h = t .numbered .0 in omega arith) in
-        record { answer = t .answer; numbered = t .numbered .1; fills = subst (λ (a : Answer Counts). Fills a file f) (sym (t .answer)) (rw (ne-eqb (b .progress .refusal) 0 z) tt) }
+        let z : b .progress .refusal .number ≢ 0 = λ y. absurd (let h = t .numbered in omega arith) in
+        record { answer = t .answer; fills = subst (λ (a : Answer Counts). Fills a file f) (sym (t .answer)) (rw (ne-eqb (b .progress .refusal .number) 0 z) tt) }

@@ -111,4 +111,4 @@ pub opened-filled : (file : List ℕ) (lent : ℕ) (a : Answer Counts) (rows : L
 opened-filled file lent (accepted k) rows j e =
     let D = design (records-of file (k .records)) in
     (subst (λ (ns : List ℕ). Table-of D (λ c. row-in ns c)) (sym e) (all-filled D), ap length e ∙ length-all D (said-few file lent k (sym j) .0))
-opened-filled file lent (refused n p) rows j e = (tt, ap length e ∙ length-zeros 320)
+opened-filled file lent (refused r) rows j e = (tt, ap length e ∙ length-zeros 320)

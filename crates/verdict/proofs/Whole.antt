@@ -6,10 +6,10 @@ use mathlib.Core.List.{List, map}
 use native.Mathlib.Omega.{arith}
 use native.Mathlib.Nat.{zero-add, sub-zero}
 use lib.ListN.{length, getD}
+use Rattle.answers.specs.Answer.{accepted, Counts}
 use Rattle.entry.specs.Records.{Record, wrong, part, input, output}
 use Rattle.entry.specs.Numbers.{At}
 use Rattle.entry.specs.Entered.{design}
-use Rattle.entry.specs.Answers.{accepted}
 use Rattle.entry.specs.Verdict.{verdict}
 use Rattle.reading.specs.Reads.{Ranged, Reads}
 use Rattle.reading.specs.Table.{Table-of, table}
@@ -65,5 +65,5 @@ module _ (file : List ℕ) where
     pub whole : verdict (records-of file n) ≡ rest file n waits 0
     whole = rw (sub-zero n) (Reading.answer-verdict Run view next Own (records-of file n) (look file) right waits refl tt)
 
-    pub rows-right : (c r : ℕ) → rest file n waits 0 ≡ accepted c r → Table-of (design (records-of file n)) (table (view (last file n waits 0)))
-    rows-right c r e = rw (sub-zero n) (Reading.last-table Run view next Own (records-of file n) (look file) right waits refl tt c r (whole ∙ e))
+    pub rows-right : (k : Counts) → rest file n waits 0 ≡ accepted k → Table-of (design (records-of file n)) (table (view (last file n waits 0)))
+    rows-right k e = rw (sub-zero n) (Reading.last-table Run view next Own (records-of file n) (look file) right waits refl tt k (whole ∙ e))

@@ -5,10 +5,10 @@ use mathlib.Core.Bool.{cond}
 use mathlib.Core.List.{List}
 use lib.ListN.{getD}
 use lib.Dec.{ltb}
-use Rattle.answers.specs.Answer.{Answer, accepted, refused, then, Counts}
+use Rattle.answers.specs.Fault as Fault
+use Rattle.answers.specs.Answer.{Answer, accepted, refused, then, refusal, Counts}
 use Rattle.blocks.specs.File.{sound}
 use Rattle.entry.specs.Entered.{design}
-use Rattle.entry.specs.Answers as Entry
 use Rattle.entry.specs.Verdict.{verdict}
 use Rattle.reading.specs.Table.{Table-of}
 use Rattle.look.specs.Listed.{records-of}
@@ -17,19 +17,14 @@ use Rattle.signatures.specs.declared.Signature.{Signature}
 use Rattle.signatures.specs.Rows.{zero-row}
 use Rattle.reader.specs.Rows.{row, row-in}
 
--- The verdict of the theory, with "the component and record counts".
-abbrev pub counts : Entry.Answer → Answer Counts
-counts (Entry.accepted c r) = accepted (record { components = c; records = r })
-counts (Entry.refused n p) = refused n p
-
 -- "A working table of fewer than 64 rows is 13, before everything else." Then the blocks, then the records in order.
 unfoldable pub judgement : List ℕ → (rows : ℕ) → Answer Counts
-judgement file rows = cond (ltb rows 64) (refused 13 0) (then (sound file) (λ (n : ℕ). counts (verdict (records-of file n))))
+judgement file rows = cond (ltb rows 64) (refused (refusal Fault.Room 0)) (then (sound file) (λ (n : ℕ). verdict (records-of file n)))
 
 -- How many components an accepted file has; a refused one, none.
 abbrev pub components-of : Answer Counts → ℕ
 components-of (accepted k) = k .components
-components-of (refused n p) = 0
+components-of (refused r) = 0
 
 -- What a table has of a component, and what that shows.
 abbrev pub kept : (table : List Signature) → ℕ → Signature
@@ -41,4 +36,4 @@ shown table c = row (kept table c)
 -- Numbers, five to a row, show of an accepted file the row of each component.
 abbrev pub Filled : Answer Counts → List ℕ → (rows : List ℕ) → Type 0
 Filled (accepted k) file rows = Table-of (design (records-of file (k .records))) (λ c. row-in rows c)
-Filled (refused n p) file rows = Unit
+Filled (refused r) file rows = Unit

@@ -42,9 +42,9 @@ module _ (D : Design) where
 -- Of an accepted file the rows of its design; of a refused one zeros.
 abbrev pub opening-rows : Answer Counts → List ℕ → List ℕ
 opening-rows (accepted k) file = design-rows (design (records-of file (k .records)))
-opening-rows (refused n p) file = zeros 320
+opening-rows (refused r) file = zeros 320
 
 -- The same of the design of an accepted file.
 abbrev pub Fills : Answer Counts → List ℕ → (ℕ → Signature) → Type 0
 Fills (accepted k) file f = Rows-of (design (records-of file (k .records))) f
-Fills (refused n p) file f = Unit
+Fills (refused r) file f = Unit

@@ -1,9 +1,9 @@
 // The verdict on a file: its blocks, then its records component by component, with a lent table of one row for each component.
 // The functions that hold the table do nothing else; whatever is decided is decided by functions on values.
 use answers::Counted;
-use answers::Fault;
 use answers::Refusal;
 use answers::Verdict;
+use answers::fault;
 use component::Ended;
 use component::Progress;
 use component::Wanted;
@@ -12,7 +12,7 @@ ghost use mathlib.Core.Path.{_≡_};
 ghost use mathlib.Core.Bool.{true, false};
 ghost use Prim.Native.Nat.{ℕ, _+_, _-_, _*_, _/_, _≤_, _<_};
 ghost use lib.ListN.{length, replicate};
-ghost use Rattle.answers.specs.Answer.{number, judged};
+ghost use Rattle.answers.specs.Answer.{judged};
 ghost use Rattle.reading.specs.Reader.{Row};
 ghost use Rattle.signatures.specs.Rows.{zero-row};
 ghost use Rattle.component.specs.Component.{Begins, Read};
@@ -22,36 +22,6 @@ ghost use Rattle.verdict.specs.Judgement.{judgement, components-of, kept
 ghost use Rattle.verdict.specs.Opening.{Fills, opening-rows};
 ghost use Rattle.verdict.specs.Started.{said, Starts};
 
-fn small(x: u64) -> u8
-    requires { ⌜ x < 256 ⌝ }
-    ensures { λ r. ⌜ r ≡ x ⌝ }
-{
-    x as u8
-}
-
-// The refusal with a number.
-fn fault(n: u8) -> Fault
-    requires { ⌜ (1 ≤ n) × (n ≤ 14) ⌝ }
-    ensures { λ r. ⌜ number r ≡ n ⌝ }
-{
-    match n {
-        1 => Fault::Length,
-        2 => Fault::Check,
-        3 => Fault::Header,
-        4 => Fault::Record,
-        5 => Fault::Place,
-        6 => Fault::TooMany,
-        7 => Fault::Reference,
-        8 => Fault::Width,
-        9 => Fault::Interval,
-        10 => Fault::Spacing,
-        11 => Fault::Span,
-        12 => Fault::Reading,
-        13 => Fault::Room,
-        _ => Fault::Absent,
-    }
-}
-
 // How many records a file has, and the reading before the first of them.
 pub struct Begun {
     pub records: usize,
@@ -59,14 +29,14 @@ pub struct Begun {
 }
 
 // A verdict without any reading.
-fn not_begun(refusal: u8, position: usize) -> Begun
-    ensures { λ b. ⌜ (b .progress .refusal ≡ refusal) × (b .progress .at ≡ position) × (b .progress .goes ≡ false) ⌝ }
+fn not_begun(refusal: Refusal) -> Begun
+    ensures { λ b. ⌜ (b .progress .refusal ≡ refusal) × (b .progress .goes ≡ false) ⌝ }
 {
     Begun {
         records: 0,
         progress: Progress {
             reader: reader::start(),
-            at: position,
+            at: 0,
             count: 0,
             refusal,
             goes: false,
@@ -79,30 +49,24 @@ fn begin(file: &[u8], rows: usize) -> Begun
     ensures { λ b. ⌜ Starts (now (file .entry)) rows b (b .progress .goes) ⌝ }
 {
     if rows < 64 {
-        return not_begun(13, 0);
+        return not_begun(Refusal::at(fault::ROOM, 0));
     }
     match blocks::sound(file) {
         Counted::Records(n) => Begun {
             records: n,
             progress: component::start(),
         },
-        Counted::Refused(r) => {
-            let fault = r.fault;
-            not_begun(small(fault.number()), r.position)
-        }
+        Counted::Refused(r) => not_begun(r),
     }
 }
 
 // What the reading answers where it goes no further.
 fn answered(q: Progress) -> Verdict
-    requires { ⌜ q .refusal ≤ 14 ⌝ }
     ensures { λ r. ⌜ judged r ≡ said q ⌝ }
 {
-    if q.refusal != 0 {
-        return Verdict::Refused(Refusal {
-            fault: fault(q.refusal),
-            position: q.at,
-        });
+    let refusal = q.refusal;
+    if refusal.number != 0 {
+        return Verdict::Refused(refusal);
     }
     Verdict::Accepted {
         components: q.count,

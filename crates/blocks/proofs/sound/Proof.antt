@@ -3,7 +3,7 @@
 use mathlib.Core.Path.{ap, sym, _∙_}
 use lib.ListN.{length}
 use borrow.Author.Needs.{needs}
-use Rattle.answers.specs.Answer.{counted}
+use Rattle.answers.specs.Answer.{refused}
 use Rattle.numbers.specs.Tests.{between}
 use Rattle.blocks.specs.File.{sound}
 use Rattle.blocks.proofs.sound.Statement.{statement}
@@ -19,14 +19,14 @@ returns : tie.Need-returns
 unfolding sound
 returns c = rw (sym (c .before .before .length-allowed .ensures) ∙ c .before .if1 .taken) (c .sound-blocks .ensures)
 
-refused-requires : tie.Need-refused-requires
-refused-requires c κs = search needs
+at-requires : tie.Need-at-requires
+at-requires c κs = search needs
 
 returns-2 : tie.Need-returns-2
 unfolding sound
-returns-2 c = rw (sym (c .before .before .length-allowed .ensures) ∙ c .before .if1 .left) (ap counted (c .refused .ensures))
+returns-2 c = rw (sym (c .before .before .length-allowed .ensures) ∙ c .before .if1 .left) (ap refused (c .at .ensures))
 
 pub sound-spec : {M : Type 1} → statement M
 sound-spec =
     tie.close
-    (tie.spec length-allowed-requires sound-blocks-requires returns refused-requires returns-2)
+    (tie.spec length-allowed-requires sound-blocks-requires returns at-requires returns-2)

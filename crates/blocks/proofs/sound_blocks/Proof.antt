@@ -6,7 +6,7 @@ use native.Mathlib.Nat.{sub-zero}
 use lib.ListN.{length}
 use borrow.Author.Tests.{not-true, not-false}
 use borrow.Author.Needs.{needs}
-use Rattle.answers.specs.Answer.{accepted, counted}
+use Rattle.answers.specs.Answer.{accepted, refused}
 use Rattle.blocks.specs.File.{record-count, sound-from}
 use Rattle.blocks.proofs.Laws.{sound-end, sound-check, sound-header, sound-more}
 use Rattle.blocks.proofs.sound_blocks.Statement.{statement}
@@ -42,12 +42,12 @@ part-block-end c = search needs
 check-right-requires : tie.Need-check-right-requires Inv-loop μ-loop
 check-right-requires c κs = search needs
 
-refused-requires : tie.Need-refused-requires Inv-loop μ-loop
-refused-requires c κs = search needs
+at-requires : tie.Need-at-requires Inv-loop μ-loop
+at-requires c κs = search needs
 
 returns : tie.Need-returns Inv-loop μ-loop
 returns c = let e = sound-check _ _ (c .before .before .before .before .loop-test .taken) (sym (c .before .before .check-right .ensures) ∙ not-true _ (c .before .if1 .taken)) in
-    ap counted (c .refused .ensures) ∙ sym e ∙ c .before .before .before .before .before .loop .inv .1
+    ap refused (c .at .ensures) ∙ sym e ∙ c .before .before .before .before .before .loop .inv .1
 
 add-header-right : tie.Need-add-header-right Inv-loop μ-loop
 add-header-right c = search needs
@@ -55,12 +55,12 @@ add-header-right c = search needs
 header-right-requires : tie.Need-header-right-requires Inv-loop μ-loop
 header-right-requires c κs = search needs
 
-refused-requires-2 : tie.Need-refused-requires-2 Inv-loop μ-loop
-refused-requires-2 c κs = search needs
+at-requires-2 : tie.Need-at-requires-2 Inv-loop μ-loop
+at-requires-2 c κs = search needs
 
 returns-2 : tie.Need-returns-2 Inv-loop μ-loop
 returns-2 c = let e = sound-header _ _ (c .before .before .before .before .before .before .loop-test .taken) (sym (c .before .before .before .before .check-right .ensures) ∙ not-false _ (c .before .before .before .if1 .left)) (sym (c .before .before .header-right .ensures) ∙ not-true _ (c .before .if2 .taken)) in
-    ap counted (c .refused2 .ensures) ∙ sym e ∙ c .before .before .before .before .before .before .before .loop .inv .1
+    ap refused (c .at2 .ensures) ∙ sym e ∙ c .before .before .before .before .before .before .before .loop .inv .1
 
 add-b : tie.Need-add-b Inv-loop μ-loop
 add-b c = search needs
@@ -114,11 +114,11 @@ sound-blocks-spec =
     part-block-start
     part-block-end
     check-right-requires
-    refused-requires
+    at-requires
     returns
     add-header-right
     header-right-requires
-    refused-requires-2
+    at-requires-2
     returns-2
     add-b
     loop-less

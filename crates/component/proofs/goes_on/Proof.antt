@@ -17,12 +17,15 @@ opened-requires c κs = search needs
 add-t8 : tie.Need-add-t8
 add-t8 c = search needs
 
+no-refusal-requires : tie.Need-no-refusal-requires
+no-refusal-requires c κs = search needs
+
 own-row-requires : tie.Need-own-row-requires
 own-row-requires c κs = search needs
 
 returns : tie.Need-returns
-returns c = (rw (c .before .before .half .ensures) at (c .before .opened .ensures), refl, refl, refl, refl, c .own-row .ensures)
+returns c = (rw (c .before .before .before .half .ensures) at (c .before .before .opened .ensures), refl, refl, refl, refl, c .own-row .ensures)
 
 pub goes-on-spec : {M : Type 1} → statement M
 goes-on-spec =
-    tie.close (tie.spec sub-half half-requires opened-requires add-t8 own-row-requires returns)
+    tie.close (tie.spec sub-half half-requires opened-requires add-t8 no-refusal-requires own-row-requires returns)

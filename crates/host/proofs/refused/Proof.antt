@@ -1,4 +1,4 @@
--- `host::refused` meets its contract. The fault's number and the position.
+-- `host::refused` meets its contract. The number and the position.
 -- Assumes nothing.
 use mathlib.Core.Path.{refl}
 use borrow.Author.Needs.{needs}

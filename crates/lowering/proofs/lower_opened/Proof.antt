@@ -5,7 +5,7 @@ use native.Mathlib.Omega.{arith}
 use lib.ListN.{length}
 use borrow.Author.Needs.{needs}
 use lib.ListN.{length-take}
-use Rattle.answers.specs.Answer.{written, accepted}
+use Rattle.answers.specs.Answer.{refused, accepted}
 use Rattle.lowering.proofs.Answers.{can-lower, absent, short, fits, count-is, rows-written}
 use Rattle.control.proofs.Called.{last-below}
 use Rattle.lowering.proofs.Parts.{rows-total, connections-after}
@@ -38,13 +38,13 @@ mul-if2 : tie.Need-mul-if2
 mul-if2 c = let a = last-below (c .before .before .built-at .ensures .0) in
     omega (arith, c .size .ensures .0)
 
-refused-requires : tie.Need-refused-requires
-refused-requires c κs = search needs
+at-requires : tie.Need-at-requires
+at-requires c κs = search needs
 
 returns : tie.Need-returns
 returns c = let k = count-is (c .before .before .before .before .built-at .ensures .0) (c .before .before .before .before .built-at .ensures .1) (c .before .before .before .before .built-at .ensures .2) (c .before .before .size .result) (c .before .before .size .ensures .0) in
     let e = short (c .before .before .before .before .before .before .before .before .before .before .pre .0) (c .before .before .before .before .before .before .before .before .before .before .args .components) (c .before .before .before .before .before .before .before .before .before .before .pre .1) (c .before .before .before .before .before .before .before .before .before .before .args .asked) (length (c .before .before .before .before .before .before .before .before .before .before .args .out .now)) (sym (c .before .before .before .before .before .before .can-lower .ensures) ∙ c .before .before .before .before .before .if1 .taken) (omega arith) in
-    (rw e (ap written (c .refused .ensures)), rw e refl)
+    (rw e (ap refused (c .at .ensures)), rw e refl)
 
 mul-put-rows : tie.Need-mul-put-rows
 mul-put-rows c = search needs
@@ -71,12 +71,12 @@ returns-2 c = let k = count-is (c .before .before .before .before .before .befor
     let e = fits (c .before .before .before .before .before .before .before .before .before .before .before .before .before .pre .0) (c .before .before .before .before .before .before .before .before .before .before .before .before .before .args .components) (c .before .before .before .before .before .before .before .before .before .before .before .before .before .pre .1) (c .before .before .before .before .before .before .before .before .before .before .before .before .before .args .asked) (length (c .before .before .before .before .before .before .before .before .before .before .before .before .before .args .out .now)) (sym (c .before .before .before .before .before .before .before .before .before .can-lower .ensures) ∙ c .before .before .before .before .before .before .before .before .if1 .taken) (omega arith) in
     (rw e (ap accepted k), rw e (rows-written (c .before .before .before .before .before .before .before .built-at .ensures .0) (c .before .before .before .before .before .before .before .built-at .ensures .1) (c .before .before .before .before .before .before .before .built-at .ensures .2) (c .before .before .before .before .before .size .result) (c .before .before .before .before .before .size .ensures .0) (c .before .before .put-rows .last .1 .1 .1 .0) (c .before .before .before .before .before .before .before .before .before .before .before .before .before .args .out .now) (c .before .before .put-rows .ensures)))
 
-refused-requires-2 : tie.Need-refused-requires-2
-refused-requires-2 c κs = search needs
+at-requires-2 : tie.Need-at-requires-2
+at-requires-2 c κs = search needs
 
 returns-3 : tie.Need-returns-3
 returns-3 c = let e = absent (c .before .before .before .before .before .before .pre .0) (c .before .before .before .before .before .before .args .components) (c .before .before .before .before .before .before .pre .1) (c .before .before .before .before .before .before .args .asked) (length (c .before .before .before .before .before .before .args .out .now)) (sym (c .before .before .can-lower .ensures) ∙ c .before .if1 .left) in
-    (rw e (ap written (c .refused2 .ensures)), rw e refl)
+    (rw e (ap refused (c .at2 .ensures)), rw e refl)
 
 pub lower-opened-spec : {M : Type 1} → statement M
 lower-opened-spec =
@@ -89,7 +89,7 @@ lower-opened-spec =
     size-requires
     add-count-2
     mul-if2
-    refused-requires
+    at-requires
     returns
     mul-put-rows
     sub-put-rows
@@ -98,5 +98,5 @@ lower-opened-spec =
     put-rows-requires
     same-length
     returns-2
-    refused-requires-2
+    at-requires-2
     returns-3)

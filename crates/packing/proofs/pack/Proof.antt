@@ -5,7 +5,7 @@ use native.Mathlib.Omega.{arith}
 use lib.ListN.{length}
 use borrow.Author.Tests.{lt-ltb, le-ltb}
 use borrow.Author.Needs.{needs}
-use Rattle.answers.specs.Answer.{written}
+use Rattle.answers.specs.Answer.{refused}
 use Rattle.numbers.specs.Tests.{between}
 use Rattle.packing.specs.Answer.{pack-answer}
 use Rattle.packing.proofs.pack.Statement.{statement}
@@ -20,13 +20,13 @@ add-n c = search needs
 mul-if2 : tie.Need-mul-if2
 mul-if2 c = search needs
 
-refused-requires : tie.Need-refused-requires
-refused-requires c κs = search needs
+at-requires : tie.Need-at-requires
+at-requires c κs = search needs
 
 returns : tie.Need-returns
 unfolding pack-answer
 returns c = let e = sym (c .before .before .before .list-allowed .ensures) ∙ c .before .before .if1 .taken in
-    (rw (e, lt-ltb _ _ (c .before .if2 .taken)) (ap written (c .refused .ensures)), rw (e, lt-ltb _ _ (c .before .if2 .taken)) refl)
+    (rw (e, lt-ltb _ _ (c .before .if2 .taken)) (ap refused (c .at .ensures)), rw (e, lt-ltb _ _ (c .before .if2 .taken)) refl)
 
 put-blocks-requires : tie.Need-put-blocks-requires
 put-blocks-requires c κs = let b = between 16 63488 (length (c .before .before .before .before .before .before .args .list .now)) _ (sym (c .before .before .before .list-allowed .ensures) ∙ c .before .before .if1 .taken) in (refl, b .most, omega arith)
@@ -42,13 +42,13 @@ unfolding pack-answer
 returns-2 c = let e = sym (c .before .before .before .before .before .before .list-allowed .ensures) ∙ c .before .before .before .before .before .if1 .taken in
     (rw (e, le-ltb _ _ (c .before .before .before .before .if2 .left)), rw (e, le-ltb _ _ (c .before .before .before .before .if2 .left)) (c .before .before .put-blocks .ensures))
 
-refused-requires-2 : tie.Need-refused-requires-2
-refused-requires-2 c κs = search needs
+at-requires-2 : tie.Need-at-requires-2
+at-requires-2 c κs = search needs
 
 returns-3 : tie.Need-returns-3
 unfolding pack-answer
 returns-3 c = let e = sym (c .before .before .list-allowed .ensures) ∙ c .before .if1 .left in
-    (rw e (ap written (c .refused2 .ensures)), rw e refl)
+    (rw e (ap refused (c .at2 .ensures)), rw e refl)
 
 pub pack-spec : {M : Type 1} → statement M
 pack-spec =
@@ -57,11 +57,11 @@ pack-spec =
     list-allowed-requires
     add-n
     mul-if2
-    refused-requires
+    at-requires
     returns
     put-blocks-requires
     mul-t6
     same-length
     returns-2
-    refused-requires-2
+    at-requires-2
     returns-3)

@@ -4,7 +4,7 @@ use mathlib.Core.Path.{refl, ap, sym, _∙_}
 use native.Mathlib.Omega.{arith}
 use borrow.Author.Tests.{lt-ltb, le-ltb}
 use borrow.Author.Needs.{needs}
-use Rattle.answers.specs.Answer.{counted, written}
+use Rattle.answers.specs.Answer.{refused, counted}
 use Rattle.blocks.specs.Sound.{sound-blocks, sound-count, records-fit}
 use Rattle.packing.specs.Answer.{unpack-answer}
 use Rattle.packing.proofs.unpack.Statement.{statement}
@@ -21,13 +21,13 @@ mul-size c = let e = sym (c .before .before .before .sound .ensures) ∙ ap coun
     let s = sound-blocks _ _ e in
     omega (arith, records-fit _ s, sound-count _ _ e, s .allowed .most)
 
-refused-requires : tie.Need-refused-requires
-refused-requires c κs = search needs
+at-requires : tie.Need-at-requires
+at-requires c κs = search needs
 
 returns : tie.Need-returns
 unfolding unpack-answer
 returns c = let e = sym (c .before .before .before .before .before .sound .ensures) ∙ ap counted (c .before .before .before .records .given .1) in
-    (rw (e, lt-ltb _ _ (c .before .if1 .taken)) (ap written (c .refused .ensures)), rw (e, lt-ltb _ _ (c .before .if1 .taken)) refl)
+    (rw (e, lt-ltb _ _ (c .before .if1 .taken)) (ap refused (c .at .ensures)), rw (e, lt-ltb _ _ (c .before .if1 .taken)) refl)
 
 put-records-requires : tie.Need-put-records-requires
 put-records-requires c κs = let e = sym (c .before .before .before .before .before .sound .ensures) ∙ ap counted (c .before .before .before .records .given .1) in
@@ -57,7 +57,7 @@ unpack-spec =
     sound-requires
     enum-known-records
     mul-size
-    refused-requires
+    at-requires
     returns
     put-records-requires
     enum-known-r

@@ -7,19 +7,21 @@ use mathlib.Core.List.{List, [], _∷_, _++_}
 use lib.ListN.{length, length-append}
 use lib.Seq.{getD-append-seam}
 use native.Mathlib.Omega.{arith}
+use Rattle.answers.specs.Answer.{accepted, Counts}
 use Rattle.timeline.specs.Design.{Port}
 use Rattle.entry.specs.Lists.{add-last}
 use Rattle.entry.specs.Records.{Record, wrong, component, part, records}
 use Rattle.entry.specs.Numbers.{At}
 use Rattle.entry.specs.Entered.{Entered, nothing, after, enter, enter-all, said, design}
 use Rattle.entry.specs.Asks.{Asks, asks, ending}
-use Rattle.entry.specs.Answers.{accepted}
+use Rattle.entry.specs.Told as Entry
 use Rattle.entry.specs.Verdict.{verdict}
 use Rattle.entry.specs.Laws.{length-add-last, Keeps, Sound, sound-step, records-step}
 use Rattle.reading.specs.Tests.{Means, means-never, means-below}
 use Rattle.reading.specs.Changed.{changed-there, changed-below}
 use Rattle.reading.specs.Scan.{Tests, Agree, Follows}
 use Rattle.reading.specs.Reader.{View, waits, reads, tests, ends, count}
+use Rattle.reading.specs.Told.{told}
 use Rattle.reading.specs.Step.{own-row, Step}
 use Rattle.reading.specs.Table.{Table-of, table}
 use Rattle.reading.specs.Reads.{Passes, Ranged, Reads, answer, last-state}
@@ -84,6 +86,11 @@ module _ (S : Type 0) (view : S → View) (next : S → ℕ → Record → S) (O
   counts (after E C) waits h k = absurd h
   counts (after E C) (reads s) h k = let z = length-add-last E C in let y = h .2 .number in omega arith
 
+  -- A reader tells what has been entered tells.
+  tells-so : (e : Entered) (done : List Record) (v : View) (r : Record) (n : ℕ) → View-fits e done v → Entry.told e r (length done) n ≡ told v r (length done) n
+  unfolding Entry.told told
+  tells-so e done v r n h = refl
+
   goes-on : (e : Entered) (done : List Record) (v v′ : View) (r : Record) → View-fits e done v → Keeps (asks e r) → Step v (length done) r v′ → View-fits (enter e r) (add-last done r) v′
   unfolding add-last records
   goes-on nothing done waits v′ wrong h k s = absurd (k .0)
@@ -111,11 +118,12 @@ module _ (S : Type 0) (view : S → View) (next : S → ℕ → Record → S) (O
   abbrev pub State-fits : Entered → List Record → S → Type 0
   State-fits e done s = View-fits e done (view s) × Own s
 
-  follows : Follows S (λ s. tests look (view s)) (λ s. ends (view s)) (λ s. count (view s)) next file State-fits
+  follows : Follows S (λ s. tests look (view s)) (λ s. ends (view s)) (λ s. told (view s)) (λ s. count (view s)) next file State-fits
   follows =
       record {
         at-record = λ e done s r rs h w. agree e done (view s) r rs (h .0) w (in-range done r rs w);
         at-end = λ e s h. agree-end e (view s) (h .0);
+        tells-so = λ e done s r n h. tells-so e done (view s) r n (h .0);
         counts = λ e s h k. counts e (view s) (h .0) k;
         goes-on = λ e done s r rs h w k.
             let p = passes (asks e r) (tests look (view s) r) (agree e done (view s) r rs (h .0) w (in-range done r rs w)) k in
@@ -127,11 +135,11 @@ module _ (S : Type 0) (view : S → View) (next : S → ℕ → Record → S) (O
   begins s v o = let f : View-fits nothing [] (view s) = rw v refl in (f, o)
 
   pub answer-verdict : (s : S) → view s ≡ waits → Own s → verdict file ≡ answer S view next Own file look s 0 file
-  answer-verdict s v o = scan-verdict S _ _ _ next file State-fits follows s (begins s v o)
+  answer-verdict s v o = scan-verdict S _ _ _ _ next file State-fits follows s (begins s v o)
 
-  pub last-fits : (s : S) → view s ≡ waits → Own s → (c r : ℕ) → verdict file ≡ accepted c r → State-fits (enter-all nothing file) file (last-state S view next Own file look s 0 file)
-  last-fits s v o c r a = final-fits S _ _ _ next file State-fits follows s (begins s v o) c r a
+  pub last-fits : (s : S) → view s ≡ waits → Own s → (k : Counts) → verdict file ≡ accepted k → State-fits (enter-all nothing file) file (last-state S view next Own file look s 0 file)
+  last-fits s v o k a = final-fits S _ _ _ _ next file State-fits follows s (begins s v o) k a
 
-  pub last-table : (s : S) → view s ≡ waits → Own s → (c r : ℕ) → verdict file ≡ accepted c r → Table-of (design file) (table (view (last-state S view next Own file look s 0 file)))
+  pub last-table : (s : S) → view s ≡ waits → Own s → (k : Counts) → verdict file ≡ accepted k → Table-of (design file) (table (view (last-state S view next Own file look s 0 file)))
   unfolding design
-  last-table s v o c r a = whole-table (enter-all nothing file) file (view (last-state S view next Own file look s 0 file)) ((last-fits s v o c r a) .0)
+  last-table s v o k a = whole-table (enter-all nothing file) file (view (last-state S view next Own file look s 0 file)) ((last-fits s v o k a) .0)

@@ -342,7 +342,7 @@ module _ {M : Type 1} (𝓤 : URA M) (H : Heap 𝓤) (A : Atoms 𝓤) (W : Given
             rewrite ! 14 (λ (t : Bool). ‵ (fat fullShare tyBool l₈ 0 (vbool t))) goes refl $ leaves-loop ! (load ! (from ! (stop !)) (look ! 14 refl)) $
             exec ! C Λ En text.t-6 (atRet En Post) $
             owned ! P.the-row (Is P.the-row) ((LL.makes P.the-type P′.the-plain) 𝓤 H A) (u .q) _ (u .good) $
-            calls-into W answered.ended (answered.clauses 𝓤 H A mem run) ((tt, tt, tt, (u .q, tt), (P′.lowered (u .q) ∷ [], tt)), tt) 𝓣 ! known-answered (factI 𝓤 (u .q .refusal ≤ 14) (emp 𝓤) (over .numbered)) (EL.lawful O.the-type O′.the-laws 𝓤 H A W tt)
+            calls-into W answered.ended (answered.clauses 𝓤 H A mem run) ((tt, tt, tt, (u .q, tt), (P′.lowered (u .q) ∷ [], tt)), tt) 𝓣 ! known-answered (id⊢ 𝓤 (emp 𝓤)) (EL.lawful O.the-type O′.the-laws 𝓤 H A W tt)
             (and-then ! (load ! (from ! (stop !)) (look ! 20 refl)) (no-more !)) (record { spot = (O′.mir, l₀, 0); finds = from ! (stop !); writes = λ v ty. init ! 30 refl (ty .0) }) (λ v r _.
             heard ! (judged r ≡ said (u .q)) (λ e. turn ! 1 $
             -- [the table's; its token; file's token; file's; _13; …; the result's]
