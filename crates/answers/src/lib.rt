@@ -1,12 +1,14 @@
 // What every function answers: acceptance with its values, or the first refusal with its position.
 // `specs/Answer.antt` gives each case document 01's number and values, and all contracts speak through it.
+#![tactic(auto)]
+
 ghost use Rattle.std.specs.Prelude.{◌≡◌};
 ghost use Rattle.answers.specs.Answer.{refusal};
 
 pub mod fault;
 
 // A refusal: its number, and where it stands (a block, a record, an asked number, or 0).
-#[derive(Drop)]
+#[derive(Clone, Copy)]
 pub struct Refusal {
     pub number: u8,
     pub position: usize,
@@ -22,28 +24,28 @@ impl Refusal {
 }
 
 // Of a file's blocks: how many records they hold.
-#[derive(Drop)]
+#[derive(Clone, Copy)]
 pub enum Counted {
     Records(usize),
     Refused(Refusal),
 }
 
 // Of a record asked for by its number.
-#[derive(Drop)]
+#[derive(Clone, Copy)]
 pub enum Lookup {
     Present,
     Refused(Refusal),
 }
 
 // Of a call that writes: how many bytes or rows it wrote.
-#[derive(Drop)]
+#[derive(Clone, Copy)]
 pub enum Written {
     Done(usize),
     Refused(Refusal),
 }
 
 // Of a whole file.
-#[derive(Drop)]
+#[derive(Clone, Copy)]
 pub enum Verdict {
     Accepted { components: usize, records: usize },
     Refused(Refusal),

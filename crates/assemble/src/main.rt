@@ -1,5 +1,7 @@
 // The text of a design on standard input; its list of records on standard output. Where the text stops making sense, one line on standard
 // error says which line of it that is and what was expected there, and nothing goes to standard output.
+#![tactic(auto)]
+
 use assembly::State;
 use libc::{STDERR_FILENO, STDIN_FILENO, STDOUT_FILENO};
 use text::Expected;

@@ -1,4 +1,6 @@
 // A text, line by line, into the list of the records that its lines say.
+#![tactic(auto)]
+
 use places::Place;
 use sentence::Said;
 use text::Expected;
@@ -65,7 +67,7 @@ fn kept(sixteen: [u8; 16], list: &mut [u8], s: State) -> State {
         return s.asks(Expected::Fewer);
     }
     let view: &[u8] = &sixteen;
-    bytes::copy(view, &mut list[16 * n..16 * n + 16]);
+    list[16 * n..16 * n + 16].copy_from_slice(view);
     let place = s.place;
     let mut next = s;
     next.records = n + 1;

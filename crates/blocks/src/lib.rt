@@ -1,4 +1,6 @@
 // The blocks of a file: its length, their checks and headers; and a record asked for by its number.
+#![tactic(auto)]
+
 ghost use Rattle.std.specs.Prelude.{◌≡◌, ◌+◌, ◌*◌, ◌/◌, ◌<◌, length};
 ghost use Rattle.answers.specs.Answer.{counted, looked_up};
 ghost use Rattle.numbers.specs.Numbers.{all_zero};

@@ -1,5 +1,7 @@
 // The verdict on each file of the case table: the cases of document 01, every limit at and one past its bound, and files that are hard in other ways.
 // It would catch a rule that is off by one, a rule tested in the wrong order, and a position that is not the first.
+#![tactic(auto)]
+
 use libc::STDOUT_FILENO;
 
 fn case(name: &[u8]) {

@@ -1,4 +1,6 @@
 // One cell of a picture: who uses a port, or an instance, in one cycle.
+#![tactic(auto)]
+
 ghost use Rattle.std.specs.Prelude.{◌≡◌, ◌≤◌, ◌<◌, min, length};
 ghost use Rattle.cells.specs.Cells as Cells;
 

@@ -17,7 +17,7 @@ use Rattle.timeline.specs.Rules.{Lawful}
 use Rattle.entry.specs.Records.{Record, component, parts, records}
 use Rattle.entry.specs.Verdict.{verdict}
 use Rattle.entry.specs.Main.{accepted_exactly}
-use Rattle.reading.specs.Proofs.Ranges.{All-in-range, accepted-in-range}
+use Rattle.reading.specs.Proofs.Ranges.{AllInRange, accepted_in_range}
 use Rattle.records.specs.Decoded.{decoded}
 use Rattle.records.specs.Encoded.{encoded}
 use Rattle.look.specs.Listed.{sixteens, records_of}
@@ -37,7 +37,7 @@ module _ (file : List ℕ) (small : Bytes file) (k : Counts) (p : Passed file k)
       let u = Packing.list_of file holds in
       let s : sixteens file 0 p.count ≡ pieces (unpacked file) 0 p.count = sixteens_are file holds in
       let v : verdict (map decoded (pieces (unpacked file) 0 p.count)) ≡ accepted k = rw s at p.rules in
-      let a = accepted-in-range (map decoded (pieces (unpacked file) 0 p.count)) k v in
+      let a = accepted_in_range (map decoded (pieces (unpacked file) 0 p.count)) k v in
       rw s (ap joined (encode_decoded (unpacked file) u.small 0 p.count a) ∙ joined_all (unpacked file) p.count (Packing.count_is file holds))
 
   pub file_again : packed (joined (map encoded (records_of file p.count))) ≡ file
@@ -71,8 +71,8 @@ module _ (D : Design) (lawful : Lawful D) (few : length (records D) ≤ 3968) wh
   in_order : verdict (records D) ≡ accepted counts
   in_order = (accepted_exactly (records D) counts).1 (D, lawful, refl, refl, refl)
 
-  ranges : All-in-range (records D)
-  ranges = accepted-in-range (records D) counts in_order
+  ranges : AllInRange (records D)
+  ranges = accepted_in_range (records D) counts in_order
 
   long : length (list_bytes D) ≡ 16 * length (records D)
   long = length_joined (map encoded (records D)) (sixteens_encoded (records D) ranges) ∙ ap (λ (n : ℕ). 16 * n) (length-map (records D) encoded)

@@ -8,7 +8,7 @@ use lib.ListN.{length, take, drop}
 use Rattle.entry.specs.Records.{Record, wrong}
 use Rattle.entry.specs.Entered.{nothing}
 use Rattle.entry.specs.Asks.{InRange}
-use Rattle.reading.specs.Proofs.Ranges.{All-in-range}
+use Rattle.reading.specs.Proofs.Ranges.{AllInRange}
 use Rattle.numbers.specs.Numbers.{Bytes}
 use Rattle.numbers.proofs.Bytes as Bytes
 use Rattle.records.specs.Decoded.{decoded}
@@ -18,18 +18,18 @@ use Rattle.claims.specs.File.{joined}
 use Rattle.claims.proofs.Pieces.{pieces, Sixteens}
 use Rattle.claims.proofs.Sizes.{encoded_sixteen, encoded_small}
 
-pub decode_encoded : (rs : List Record) → All-in-range rs → map decoded (map encoded rs) ≡ rs
-unfolding All-in-range
+pub decode_encoded : (rs : List Record) → AllInRange rs → map decoded (map encoded rs) ≡ rs
+unfolding AllInRange
 decode_encoded [] h = refl
 decode_encoded (r ∷ rs) h = cc (decoded_encoded r h.0, decode_encoded rs h.1)
 
-pub sixteens_encoded : (rs : List Record) → All-in-range rs → Sixteens (map encoded rs)
-unfolding All-in-range Sixteens
+pub sixteens_encoded : (rs : List Record) → AllInRange rs → Sixteens (map encoded rs)
+unfolding AllInRange Sixteens
 sixteens_encoded [] h = tt
 sixteens_encoded (r ∷ rs) h = (encoded_sixteen r h.0, sixteens_encoded rs h.1)
 
-pub joined_small : (rs : List Record) → All-in-range rs → Bytes (joined (map encoded rs))
-unfolding All-in-range joined
+pub joined_small : (rs : List Record) → AllInRange rs → Bytes (joined (map encoded rs))
+unfolding AllInRange joined
 joined_small [] h = Bytes.none
 joined_small (r ∷ rs) h = Bytes.joined (encoded r) (joined (map encoded rs)) (encoded_small r h.0) (joined_small rs h.1)
 
@@ -37,8 +37,8 @@ not_wrong : (r : Record) → InRange r → r ≢ wrong
 not_wrong r h e = rw e at h
 
 -- Pieces of a list of bytes.
-pub encode_decoded : (l : List ℕ) → Bytes l → (i n : ℕ) → All-in-range (map decoded (pieces l i n)) → map encoded (map decoded (pieces l i n)) ≡ pieces l i n
-unfolding All-in-range pieces
+pub encode_decoded : (l : List ℕ) → Bytes l → (i n : ℕ) → AllInRange (map decoded (pieces l i n)) → map encoded (map decoded (pieces l i n)) ≡ pieces l i n
+unfolding AllInRange pieces
 encode_decoded l small i zero h = refl
 encode_decoded l small i (suc n) h =
     let p = take 16 (drop (16 * i) l) in

@@ -21,7 +21,7 @@ use Rattle.timeline.specs.Design.{Design}
 use Rattle.timeline.specs.Rules.{Lawful}
 use Rattle.timeline.specs.Flat.{Row, row_count, unit_count, rows}
 use Rattle.timeline.specs.Listing.{no_row, flat_listing}
-use Rattle.timeline.specs.Proofs.Rows.{cycle-below}
+use Rattle.timeline.specs.Proofs.Rows.{cycle_below}
 use Rattle.verdict.specs.Judgement.{judgement}
 use Rattle.groups.specs.Groups.{design_of}
 use Rattle.expansion.specs.Bytes.{row_bytes, rows_bytes}
@@ -62,7 +62,7 @@ module _ (D : Design) (lawful : Lawful D) (top : ℕ) (there : top < length D) (
   row_small i l =
       let L = flat_listing D lawful top there (λ t. t ≡ 0) in
       let (u, s, n) = L.row_has_use 0 i refl (omega (arith, L.row_total, l)) in
-      let b = cycle-below lawful top there u.path u.is_path in
+      let b = cycle_below lawful top there u.path u.is_path in
       let c = rw n at (L.row_cycle u) in
       let v = rw n at (L.row_unit u) in
       let w = L.number_below u in

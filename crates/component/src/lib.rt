@@ -1,4 +1,6 @@
 // The records of one component, read with the rows of the components that its instances are made of; and which rows those are.
+#![tactic(auto)]
+
 ghost use Rattle.std.specs.Prelude.{◌≡◌, true, false, cond, [], ℕ, ◌+◌, ◌-◌, ◌*◌, ◌/◌, ◌≤◌, ◌<◌, length};
 ghost use Rattle.entry.specs.Records.{Record as Said};
 ghost use Rattle.reading.specs.Reader.{Row, View};
@@ -30,7 +32,7 @@ fn size(x: u16) -> usize
 
 // How far the reading has come: the component that is being read, the record that is next, how many components have begun.
 // Where it goes no further, the refusal; its number is 0 for none. Where there is one, no record is next and `at` is 0.
-#[derive(Drop)]
+#[derive(Clone, Copy)]
 pub struct Progress {
     pub reader: Reader,
     pub at: usize,
@@ -40,7 +42,7 @@ pub struct Progress {
 }
 
 // A component that has been read: its row, and the row's place.
-#[derive(Drop)]
+#[derive(Clone, Copy)]
 pub struct Ended {
     pub progress: Progress,
     pub place: usize,
@@ -49,7 +51,7 @@ pub struct Ended {
 
 // A component whose row is wanted, and the place that the row goes to. After it come every other component below `end`, or those
 // of the instances from record `from` on, before `end`.
-#[derive(Drop)]
+#[derive(Clone, Copy)]
 pub struct Wanted {
     pub every: bool,
     pub component: usize,

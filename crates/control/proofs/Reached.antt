@@ -7,7 +7,7 @@ use native.Mathlib.Nat.{le-max_left, le-max_right, max-le}
 use native.Mathlib.Decide.{ℕ_discrete}
 use Rattle.timeline.specs.Design.{Design, input_count, output_count, invocation_count, input, output, invoked, offset, gives}
 use Rattle.timetable.specs.States.{states}
-use Rattle.timetable.specs.Laws.{states-cover, states-only}
+use Rattle.timetable.specs.Laws.{states_cover, states_only}
 
 -- m is the greatest of 1 and the ends of component d's ports.
 pub record Lasts (D : Design) (d m : ℕ) : Type 0 where
@@ -29,7 +29,7 @@ module _ (D : Design) (c : ℕ) where
 
   pub reached_own : (m : ℕ) → Lasts D c m → Reached 0 m
   reached_own m h =
-      let s = states-cover D c in
+      let s = states_cover D c in
       record {
         one = h.one;
         own_inputs = h.inputs;
@@ -61,7 +61,7 @@ module _ (D : Design) (c : ℕ) where
     within : offset D c j + e ≤ states D c
     unfolding gives
     within =
-        let s = states-cover D c in
+        let s = states_cover D c in
         let a = s.starts j there in
         let k = g.least (states D c - offset D c j) (omega arith) (λ i l. let b = s.inputs j there i l in omega arith) (λ o l. let b = s.outputs j there o l in omega arith) in
         omega arith
@@ -82,4 +82,4 @@ module _ (D : Design) (c : ℕ) where
   pub reached_last : (j m : ℕ) → j ≡ invocation_count D c → Reached j m → m ≡ states D c
   reached_last j m e h =
       let k = rw e at h in
-      states-only D c m (record { one = k.one; own_inputs = k.own_inputs; own_outputs = k.own_outputs; starts = k.starts; inputs = k.inputs; outputs = k.outputs }) k.most
+      states_only D c m (record { one = k.one; own_inputs = k.own_inputs; own_outputs = k.own_outputs; starts = k.starts; inputs = k.inputs; outputs = k.outputs }) k.most

@@ -9,7 +9,7 @@ use lib.ListN.{length, take, drop}
 use Rattle.timeline.specs.Design.{Design}
 use Rattle.timetable.specs.Rows.{invocation_rows, rows_before}
 use Rattle.timetable.specs.Bytes.{rows_bytes}
-use Rattle.timetable.specs.Laws.{length_before, length-invocation}
+use Rattle.timetable.specs.Laws.{length_before, length_invocation}
 use Rattle.rows.specs.declared.Use.{Use}
 use Rattle.rows.specs.Rows as Rows
 use Rattle.rows.proofs.Laws.{rows_more}
@@ -48,7 +48,7 @@ module _ {file rows : List ℕ} {b : Built} (h : Stands file rows b) where
           → out ≡ rows_bytes (rows_called file b j) ++ drop a d → ys ≡ rows_bytes (Rows.invocation_rows file u)
           → take a out ++ (ys ++ drop (a + (16 + 16 * n) - a) (drop a out)) ≡ rows_bytes (rows_called file b (j + 1)) ++ drop (16 * (i + (1 + n) - b.invocations)) d
       call_more n a d out ys en ea e y =
-          let k = length-invocation E c j in
+          let k = length_invocation E c j in
           let m = g.inputs_are in
           let f = calls_from in
           let p : 16 * (i + (1 + n) - b.invocations) ≡ a + (16 + 16 * n) = omega arith in

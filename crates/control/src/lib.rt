@@ -1,4 +1,6 @@
 // A built component of a judged file: where its records stand, how many states it has, and the control rows of its invocations.
+#![tactic(auto)]
+
 ghost use Rattle.std.specs.Prelude.{◌≡◌, ◌-◌, ◌*◌, ◌≤◌, ◌<◌, length, ◌&&◌, ltb};
 ghost use Rattle.timeline.specs.Design.{built, class};
 ghost use Rattle.reader.specs.Rows.{row_in};
@@ -10,7 +12,7 @@ ghost use Rattle.control.specs.Stands.{design, called, rows_called, Stands, Begi
 use rows::Use;
 
 // A built component: how many records the file has, the component's number and what its row in the table says, and the record at which each of its groups begins.
-#[derive(Drop)]
+#[derive(Clone, Copy)]
 pub struct Built {
     pub records: usize,
     pub number: usize,

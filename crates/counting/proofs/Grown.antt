@@ -10,7 +10,7 @@ use lib.Seq.{get_or-set_same, get_or-set_other}
 use Rattle.timeline.specs.Design.{Design, leaf, built, class, invocation_count}
 use Rattle.timeline.specs.Rules.{Lawful}
 use Rattle.timeline.specs.Flat.{row_count, unit_count}
-use Rattle.timeline.specs.Proofs.Rows.{row-count-leaf, unit-count-leaf}
+use Rattle.timeline.specs.Proofs.Rows.{row_count_leaf, unit_count_leaf}
 use Rattle.entry.specs.Numbers.{component_number}
 use Rattle.expansion.specs.Notes.{first_note}
 use Rattle.expansion.specs.Noted.{capped, NotesOf, Alike, Noted}
@@ -83,8 +83,8 @@ module _ {file table : List ℕ} {components n c : ℕ} (o : OpenedAt file table
       let p = k.place in
       let z = (lawful.whole c (present o)).leaf_invocations e in
       record {
-        row_counts = counts_more (row_count D) c 1 rows k.row_counts (omega arith) (rw (row-count-leaf lawful c (present o) e));
-        unit_counts = counts_more (unit_count D) c 1 units k.unit_counts (omega arith) (rw (unit-count-leaf lawful c (present o) e));
+        row_counts = counts_more (row_count D) c 1 rows k.row_counts (omega arith) (rw (row_count_leaf lawful c (present o) e));
+        unit_counts = counts_more (unit_count D) c 1 units k.unit_counts (omega arith) (rw (unit_count_leaf lawful c (present o) e));
         notes = noted_more D noted ends c k.notes noted (first_note ends c) (λ i b. refl) (rw z (notes_start D c noted (first_note ends c))) (omega arith) (omega arith);
         place = rw (first_last ends c (first_note ends c) (omega arith)) (omega arith);
         long_rows = simp length-set lr;

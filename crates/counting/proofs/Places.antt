@@ -9,7 +9,7 @@ use native.Mathlib.Numerals.{add-one}
 use lib.ListN.{length}
 use Rattle.timeline.specs.Design.{Design, Class, leaf, built, class, input_count, output_count, instance_count, invocation_count, made_of, instance, invoked, offset}
 use Rattle.entry.specs.Numbers.{component_number, input_number, output_number, instance_number, invocation_number, connection_number}
-use Rattle.entry.specs.Laws.{next-component}
+use Rattle.entry.specs.Laws.{next_component}
 use Rattle.reading.specs.Tests.{is_built}
 use Rattle.reading.specs.Reader.{Row}
 use Rattle.reader.specs.Rows.{row_in}
@@ -37,7 +37,7 @@ module _ (D : Design) (c : ℕ) where
   pub in_order : c < length D → InOrder
   unfolding connection_number input_number output_number instance_number
   in_order h =
-      let e = next-component D c h in
+      let e = next_component D c h in
       let i = instances_end in
       let z : invocation_count D c + 0 ≡ invocation_count D c = omega arith in
       let j = rw z at (invocations_rise D c (invocation_count D c) 0) in

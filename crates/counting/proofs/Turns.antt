@@ -12,7 +12,7 @@ use borrow.Author.Tests.{eq-eqb, ne_eqb}
 use Rattle.timeline.specs.Design.{Design, built, class, instance_count, invocation_count, made_of, instance, invoked, offset}
 use Rattle.timeline.specs.Rules.{Lawful}
 use Rattle.timeline.specs.Flat.{row_count, unit_count, units_before}
-use Rattle.timeline.specs.Proofs.Rows.{row-count-built, unit-count-built, units-before-sum}
+use Rattle.timeline.specs.Proofs.Rows.{row_count_built, unit_count_built, units_before_sum}
 use Rattle.entry.specs.Numbers.{invocation_number}
 use Rattle.groups.proofs.Order.{invocations_rise}
 use Rattle.expansion.specs.Notes.{put_note}
@@ -52,7 +52,7 @@ module _ {D : Design} {c m sum : ℕ} {before : List ℕ} (s : Counted D c m sum
 module _ {D : Design} (lawful : Lawful D) (c : ℕ) (h : c < length D) where
   units_all : class D c ≡ built → units_to D c (instance_count D c) ≡ unit_count D c
   unfolding units_to
-  units_all e = sym (unit-count-built lawful c h e)
+  units_all e = sym (unit_count_built lawful c h e)
 
   pub counted_all : {m sum : ℕ} {before : List ℕ} → class D c ≡ built → Counted D c m sum before → m ≡ instance_count D c
       → (sum ≡ capped (unit_count D c)) × UnitsBefore D c (instance_count D c) before
@@ -60,11 +60,11 @@ module _ {D : Design} (lawful : Lawful D) (c : ℕ) (h : c < length D) where
 
   pub rows_all : class D c ≡ built → rows_to D c (invocation_count D c) ≡ row_count D c
   unfolding rows_to
-  rows_all e = sym (row-count-built lawful c h e)
+  rows_all e = sym (row_count_built lawful c h e)
 
   pub units_of : (j : ℕ) → units_to D c (instance D c j) ≡ units_before D c j
   unfolding units_to
-  units_of j = sym (units-before-sum lawful c h j)
+  units_of j = sym (units_before_sum lawful c h j)
 
   -- ---- invocations
   pub noting_none : (a : ℕ) (noted : List ℕ) → a ≤ invocation_number D c 0 → length noted ≡ 11904 → Noting D c 0 a a 0 noted noted

@@ -1,5 +1,7 @@
 // What the flat listing needs of a judged file, component by component from the lowest on:
 // how many rows and units each has, and notes of those of its invocations that have rows.
+#![tactic(auto)]
+
 ghost use Rattle.std.specs.Prelude.{◌≡◌, ◌+◌, ◌-◌, ◌≤◌, ◌<◌, length};
 ghost use Rattle.timeline.specs.Design.{built, class, instance_count, invocation_count};
 ghost use Rattle.timeline.specs.Flat.{row_count, unit_count};

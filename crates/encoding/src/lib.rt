@@ -1,4 +1,6 @@
 // A record as its sixteen bytes: what `records::decode` undoes.
+#![tactic(auto)]
+
 ghost use Rattle.std.specs.Prelude.{◌≡◌};
 ghost use Rattle.records.specs.Encoded.{class_byte};
 ghost use Rattle.records.specs.Says as Says;

@@ -2,15 +2,15 @@
 -- Assumes nothing.
 
 -- The end of a list: its length, and what stands where.
-pub use Rattle.entry.specs.Proofs.Lists.{none_in_empty, empty-of-length, add-last-append, length-add-last, at_old, at_new, length-change-last, at_last, at_before}
+pub use Rattle.entry.specs.Proofs.Lists.{none_in_empty, empty_of_length, add_last_append, length_add_last, at_old, at_new, length_change_last, at_last, at_before}
 -- Every rule that is asked of a record is kept; every record of a list keeps them, and nothing is missing at its end.
 pub use Rattle.entry.specs.Proofs.Good.{Keeps}
 unfoldable pub use Rattle.entry.specs.Proofs.Unbroken.{Unbroken}
-pub use Rattle.entry.specs.Proofs.Refused.{accepted-unbroken, unbroken-accepted}
+pub use Rattle.entry.specs.Proofs.Refused.{accepted_unbroken, unbroken_accepted}
 -- What then holds of what has been entered, and that its records are those that have been read.
 pub use Rattle.entry.specs.Proofs.Good.{Good, Finished}
-pub use Rattle.entry.specs.Proofs.Steps.{Sound, sound-step, records-step}
+pub use Rattle.entry.specs.Proofs.Steps.{Sound, sound_step, records_step}
 -- The numbers of the records run on without a gap.
-pub use Rattle.entry.specs.Proofs.Numbered.{first-component, next-component, all-components}
+pub use Rattle.entry.specs.Proofs.Numbered.{first_component, next_component, all_components}
 -- A refusal has some refusal's number.
-pub use Rattle.entry.specs.Proofs.Sure.{verdict-sure}
+pub use Rattle.entry.specs.Proofs.Sure.{verdict_sure}

@@ -9,7 +9,7 @@ use lib.ListN.{length}
 use Rattle.timeline.specs.Design.{Design, Class, leaf, built, class}
 use Rattle.timeline.specs.Rules.{Lawful}
 use Rattle.timeline.specs.Flat.{row_count, unit_count, rows_from}
-use Rattle.timeline.specs.Proofs.Rows.{rows-length, rows-leaf, rows-built}
+use Rattle.timeline.specs.Proofs.Rows.{rows_length, rows_leaf, rows_built}
 use Rattle.expansion.specs.Notes.{note_component, note_offset, note_units, first_note, join_from, listed}
 use Rattle.expansion.specs.Asked.{Sound}
 use Rattle.expansion.specs.Noted.{note_rows, invocation_rows, Noted}
@@ -38,7 +38,7 @@ module _ {D : Design} (lawful : Lawful D) {noted ends : List ℕ} {k : ℕ} (n :
 
   built_rows : (c t u : ℕ) → c < k → class D c ≡ built → unit_count D c ≤ 4096 → rows_from D c t u ≡ note_rows D noted c (first_note ends c) (first_note ends (c + 1)) t u
   unfolding invocation_rows
-  built_rows c t u h e s = rows-built lawful c t u (omega arith) e ∙ sym ((n.notes c h).same_rows s t u)
+  built_rows c t u h e s = rows_built lawful c t u (omega arith) e ∙ sym ((n.notes c h).same_rows s t u)
 
   built_some : (c : ℕ) → c < k → class D c ≡ built → unit_count D c ≤ 4096 → 0 < row_count D c → first_note ends c < first_note ends (c + 1)
   unfolding note_rows join_from
@@ -50,7 +50,7 @@ module _ {D : Design} (lawful : Lawful D) {noted ends : List ℕ} {k : ℕ} (n :
           let z : first_note ends (c + 1) - first_note ends c ≡ 0 = omega arith in
           let q : rows_from D c 0 0 ≡ [] = built_rows c 0 0 h e s ∙ rw z in
           let l : length (rows_from D c 0 0) ≡ 0 = ap length q in
-          let w = rows-length D c 0 0 in
+          let w = rows_length D c 0 0 in
           absurd (omega arith)
 
   -- Where no count of units was stopped, the notes of a component with rows list its rows.
@@ -59,7 +59,7 @@ module _ {D : Design} (lawful : Lawful D) {noted ends : List ℕ} {k : ℕ} (n :
   listed_rows (suc f) c t u p h r s = go (class D c) refl (λ d t u q. listed_rows f d t u (omega arith) (omega arith))
     where
       go : (x : Class) → class D c ≡ x → ((d t u : ℕ) → d < c → 0 < row_count D d → unit_count D d ≤ 4096 → listed noted ends d t u ≡ rows_from D d t u) → listed noted ends c t u ≡ rows_from D c t u
-      go leaf e below = listed_leaf noted ends c t u (leaf_none c h e) ∙ sym (rows-leaf D c t u e)
+      go leaf e below = listed_leaf noted ends c t u (leaf_none c h e) ∙ sym (rows_leaf D c t u e)
       go built e below =
           listed_join noted ends k noted_sound c t u h (built_some c h e s r)
           ∙ join_from_same (first_note ends (c + 1) - first_note ends c) (first_note ends c) _ _ (λ i l m.

@@ -8,7 +8,7 @@ use lib.ListN.{length}
 use Rattle.timeline.specs.Design.{Design, Class, leaf, built, class, instance_count, invocation_count, made_of, instance, invoked}
 use Rattle.timeline.specs.Rules.{Lawful}
 use Rattle.timeline.specs.Flat.{sum_below, unit_count, units_before}
-use Rattle.timeline.specs.Proofs.Rows.{unit-count-built, units-before-sum}
+use Rattle.timeline.specs.Proofs.Rows.{unit_count_built, units_before_sum}
 use Rattle.expansion.specs.Noted.{capped}
 
 -- Counts stopped on the way are stopped at the end, and otherwise whole.
@@ -41,7 +41,7 @@ module _ {D : Design} (lawful : Lawful D) (c : ℕ) (h : c < length D) where
     unfolding invoked
     units_within =
         let i = (lawful.rules c h).references.named j l in
-        rw (unit-count-built lawful c h (invokes_built j l), units-before-sum lawful c h j) (part_within (instance_count D c) (instance D c j) (λ n. unit_count D (made_of D c n)) i)
+        rw (unit_count_built lawful c h (invokes_built j l), units_before_sum lawful c h j) (part_within (instance_count D c) (instance D c j) (λ n. unit_count D (made_of D c n)) i)
 
     pub invoked_lower : invoked D c j < c
     unfolding invoked

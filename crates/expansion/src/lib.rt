@@ -1,5 +1,7 @@
 // The rows of a component from notes of its invocations, and of those below it: two functions that call each other.
 // They write to an array, whose reference is one word, so that a call in last place is a jump and the stack grows with the levels only.
+#![tactic(auto)]
+
 ghost use Rattle.std.specs.Prelude.{◌≡◌, ◌∷◌, [], ◌++◌, ◌+◌, ◌*◌, ◌≤◌, ◌<◌, length, drop};
 ghost use Rattle.expansion.specs.Bytes.{rows_bytes};
 ghost use Rattle.expansion.specs.Notes.{put_note, first_note, listed, listed_from};
@@ -131,5 +133,5 @@ pub fn write(noted: &[u16; 11904], ends: &[u16; 65], c: usize, size: usize, out:
 {
     let mut rows = [0u8; 32768];
     expand(noted, ends, c, 0, 0, 0, &mut rows);
-    bytes::copy(&rows[0..size], &mut out[0..size]);
+    out[0..size].copy_from_slice(&rows[0..size]);
 }

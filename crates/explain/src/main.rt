@@ -1,4 +1,6 @@
 // Why the file on standard input is refused, in a sentence; nothing for an accepted one.
+#![tactic(auto)]
+
 use answers::{Verdict, Written};
 use libc::{STDIN_FILENO, STDOUT_FILENO};
 

@@ -1,4 +1,6 @@
 // 32-bit FNV-1a, from its published description, and the check of a block.
+#![tactic(auto)]
+
 ghost use Rattle.std.specs.Prelude.{[], ◌≡◌, ◌+◌, ◌≤◌, length, take, drop};
 ghost use Rattle.fnv.specs.Fnv.{multiplied, step, hash_from, hash};
 

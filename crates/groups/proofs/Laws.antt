@@ -19,7 +19,7 @@ use Rattle.entry.specs.Records.{Record, part, records}
 use Rattle.entry.specs.Numbers.{component_number, input_number, output_number, instance_number, invocation_number, connection_number, At, Standing}
 use Rattle.entry.specs.Entered.{design}
 use Rattle.entry.specs.Main.{accepted_exactly, each_stands, the_design}
-use Rattle.entry.specs.Laws.{next-component, all-components}
+use Rattle.entry.specs.Laws.{next_component, all_components}
 use Rattle.reading.specs.Tests.{is_built}
 use Rattle.reading.specs.Reader.{Row}
 use Rattle.reader.specs.Rows.{row_in}
@@ -62,7 +62,7 @@ module _ {file rows : List ℕ} {n : ℕ} (h : Opened file rows n) where
 
   -- The component records follow each other, and the last component ends with the file.
   pub component_end : component_number D (length D) ≡ n
-  component_end = all-components D ∙ ap length h.records_are ∙ length_from file 0 n
+  component_end = all_components D ∙ ap length h.records_are ∙ length_from file 0 n
 
   module _ (c : ℕ) (present : c < length D) where
     stands : Standing D c (records_of file n)
@@ -124,7 +124,7 @@ module _ {file rows : List ℕ} {n : ℕ} (h : Opened file rows n) where
 
     -- "One connection for every own output": they are the last records of a built component.
     pub component_ends : class D c ≡ built → component_number D (suc c) ≡ connection_number D c (output_count D c)
-    component_ends b = next-component D c present ∙ ap (connection_number D c) ((h.lawful.whole c present).all_connections b)
+    component_ends b = next_component D c present ∙ ap (connection_number D c) ((h.lawful.whole c present).all_connections b)
 
     component_kind_at : kind file (component_number D c) ≡ 1
     component_kind_at =
@@ -173,12 +173,12 @@ module _ {file rows : List ℕ} {n : ℕ} (h : Opened file rows n) where
       where
         by_next : Dec (suc c < length D) → invocation_count D c ≡ 0 → connection_count D c ≡ 0 → ⊥
         by_next (yes q) none empty =
-            let e : component_number D (suc c) ≡ invocation_number D c 0 = next-component D c present ∙ no_calls (connection_count D c) none ∙ omega arith in
+            let e : component_number D (suc c) ≡ invocation_number D c 0 = next_component D c present ∙ no_calls (connection_count D c) none ∙ omega arith in
             let k = rw e at (component_kind_at (suc c) q) in
             omega arith
         by_next (no q) none empty =
             let s : suc c ≡ length D = omega arith in
-            let e : component_number D (suc c) ≡ invocation_number D c 0 = next-component D c present ∙ no_calls (connection_count D c) none ∙ omega arith in
+            let e : component_number D (suc c) ≡ invocation_number D c 0 = next_component D c present ∙ no_calls (connection_count D c) none ∙ omega arith in
             let m = ap (component_number D) s ∙ component_end in
             omega arith
 

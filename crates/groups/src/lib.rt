@@ -1,9 +1,11 @@
 // What stands in a judged file under a record's number: an instance's component, an invocation's instance and offset, and where the instances of a component and the component itself end.
+#![tactic(auto)]
+
 ghost use Rattle.std.specs.Prelude.{◌≡◌, ◌-◌, ◌*◌, ◌/◌, ◌≤◌, ◌<◌, length};
 ghost use Rattle.groups.specs.Groups.{Lies, first_number, second_number, past_instances, end_of};
 
 // An invocation: the instance that it starts, and when.
-#[derive(Drop)]
+#[derive(Clone, Copy)]
 pub struct Call {
     pub instance: u16,
     pub offset: u16,

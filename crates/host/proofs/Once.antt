@@ -15,7 +15,7 @@ use Rattle.blocks.specs.Sound.{sound_sure}
 use Rattle.packing.specs.Packed.{list_allowed}
 use Rattle.packing.specs.Answer.{into, pack_answer, unpack_answer}
 use Rattle.timeline.specs.Design.{Design, class}
-use Rattle.entry.specs.Laws.{verdict-sure}
+use Rattle.entry.specs.Laws.{verdict_sure}
 use Rattle.reading.specs.Tests.{is_built}
 use Rattle.look.specs.Listed.{records_of}
 use Rattle.timeline.specs.Flat.{row_count, unit_count}
@@ -34,7 +34,7 @@ either_sure false a b s r = r
 
 judged_sure : (file : List ℕ) (lent : ℕ) → Sure (judgement file lent)
 unfolding judgement
-judged_sure file lent = either_sure (ltb lent 64) _ _ (omega arith) (sure_then (sound file) _ (sound_sure file) (λ n. verdict-sure (records_of file n)))
+judged_sure file lent = either_sure (ltb lent 64) _ _ (omega arith) (sure_then (sound file) _ (sound_sure file) (λ n. verdict_sure (records_of file n)))
 
 found_sure : (file : List ℕ) (i : ℕ) → Sure (record_answer file i)
 unfolding record_answer

@@ -1,5 +1,7 @@
 // What a C or Rust program links: every call of document 01 under its own name. `include/dansevik.h` says it for the program's side.
 // An exported function cannot return an enum, so that each answer becomes one struct of numbers; `specs/Reply.antt` says which.
+#![tactic(auto)]
+
 ghost use Rattle.std.specs.Prelude.{◌≡◌, length, replicate};
 ghost use Rattle.answers.specs.Answer.{judged, written, looked_up};
 ghost use Rattle.signatures.specs.Rows.{zero_row};

@@ -1,4 +1,6 @@
 // The verdict on the file on standard input: `accepted C R`, with the component and record counts, or `refused N at P`.
+#![tactic(auto)]
+
 use libc::{STDIN_FILENO, STDOUT_FILENO};
 
 fn main() {

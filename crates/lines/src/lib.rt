@@ -1,4 +1,6 @@
 // The lines that `lower` and `list` print: the words of document 01 and the user's numbers.
+#![tactic(auto)]
+
 ghost use Rattle.std.specs.Prelude.{◌+◌, ◌≤◌, ◌<◌, ◌≡◌, length};
 
 use records::Source;

@@ -1,4 +1,6 @@
 // When each unit of a component of the file on standard input starts: of the component whose number is the argument, or of the last one.
+#![tactic(auto)]
+
 use libc::{STDERR_FILENO, STDIN_FILENO, STDOUT_FILENO};
 use words::Word;
 

@@ -15,7 +15,7 @@ use Rattle.answers.specs.Answer.{Answer, accepted, refused, refusal}
 use Rattle.timeline.specs.Design.{Design}
 use Rattle.timeline.specs.Rules.{Lawful}
 use Rattle.timeline.specs.Flat.{row_count, unit_count, rows}
-use Rattle.timeline.specs.Proofs.Rows.{rows-length, rows_none}
+use Rattle.timeline.specs.Proofs.Rows.{rows_length, rows_none}
 use Rattle.expansion.specs.Bytes.{rows_bytes}
 use Rattle.expansion.specs.Notes.{listed}
 use Rattle.expansion.specs.Asked.{Expands}
@@ -93,7 +93,7 @@ module _ {D : Design} (lawful : Lawful D) (c : ℕ) (h : c < length D) {counts u
       unfolding rows
       write_asked size es =
           let w = fits_says (row_count D c) (unit_count D c) (length old) fine in
-          let l = rows-length D c 0 0 in
+          let l = rows_length D c 0 0 in
           let e = ap length rows_are in
           let n = count_is in
           let q = lawful.few in

@@ -1,4 +1,6 @@
 // The flat listing of one component of a judged file: when each of its leaf units starts.
+#![tactic(auto)]
+
 ghost use Rattle.std.specs.Prelude.{◌≡◌, ℕ, ◌<◌, length};
 ghost use Rattle.answers.specs.Answer.{written, judged};
 ghost use Rattle.verdict.specs.Judgement.{judgement, Filled};

@@ -1,4 +1,6 @@
 // What stands in a file under a record's number: the record, or lightly its kind, its first number or its port.
+#![tactic(auto)]
+
 ghost use Rattle.std.specs.Prelude.{◌≡◌, ◌+◌, ◌/◌, ◌≤◌, ◌<◌, min, length};
 ghost use Rattle.blocks.specs.File.{record_place};
 ghost use Rattle.reading.specs.Reads.{Ranged};

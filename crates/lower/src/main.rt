@@ -1,4 +1,6 @@
 // The control rows of every built component of the file on standard input, as document 01 prints them; or the refusal.
+#![tactic(auto)]
+
 use libc::{STDIN_FILENO, STDOUT_FILENO};
 
 fn main() {

@@ -12,7 +12,7 @@ use Rattle.timetable.specs.States.{states}
 use Rattle.timetable.specs.Rows.{register, register_row, out_row, rows_before}
 use Rattle.timetable.specs.Bytes.{row_bytes, rows_bytes}
 use Rattle.timetable.specs.Laws.{length_before, length_rows, rows_last, length_bytes}
-use Rattle.timetable.specs.Proofs.Lists.{length-list}
+use Rattle.timetable.specs.Proofs.Lists.{length_list}
 use Rattle.rows.specs.Rows.{output_rows}
 use Rattle.rows.proofs.Laws.{bytes_one, rows_more, rows_end, rows_long}
 use Rattle.control.specs.declared.Built.{Built}
@@ -97,7 +97,7 @@ module _ {file rows : List ℕ} {b : Built} (h : Stands file rows b) where
           pub outputs_written : out₃ ≡ rows_bytes (all_rows file b)
           outputs_written =
               let t = rows_total in
-              let k = length-list (output_count E c) (out_row E c) in
+              let k = length_list (output_count E c) (out_row E c) in
               let o = h.outputs_are in
               rows_end (all_rows file b) d out₃ (last + 16 * m) (omega arith)
               (rw (rows_last E c) (rows_more (rows_before E c (called file b)) (list_below (output_count E c) (out_row E c)) d out₂ zs last (last + 16 * m) length_calls (omega arith) second (ez ∙ rw er (ap rows_bytes outputs_are))))

@@ -1,4 +1,6 @@
 // The control rows of one built component of a judged file, written into lent bytes.
+#![tactic(auto)]
+
 ghost use Rattle.std.specs.Prelude.{◌≡◌, ℕ, ◌*◌, ◌<◌, length};
 ghost use Rattle.timetable.specs.Bytes.{rows_bytes};
 ghost use Rattle.answers.specs.Answer.{left, written, judged};

@@ -1,4 +1,6 @@
 // Numbers in bytes, the lowest byte first. ("Numbers are little-endian.")
+#![tactic(auto)]
+
 ghost use Rattle.std.specs.Prelude.{◌≡◌, ◌+◌, ◌≤◌, ◌<◌, length};
 ghost use Rattle.numbers.specs.Numbers.{number, bytes};
 

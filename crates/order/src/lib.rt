@@ -1,12 +1,14 @@
 // The reader's place in the order of the records: a state by value, with a method for each kind of record.
 // `specs/Seen.antt` says which place of the theory it is.
+#![tactic(auto)]
+
 ghost use Rattle.std.specs.Prelude.{◌≡◌, true, ◌<◌, ltb};
 ghost use Rattle.timeline.specs.Design.{no_port, no_call, constant};
 ghost use Rattle.entry.specs.Records.{input, output, instance, invocation, argument, connection};
 ghost use Rattle.reading.specs.Place.{begun, may, may_end, moved};
 ghost use Rattle.order.specs.Seen.{seen, closed};
 
-#[derive(Drop)]
+#[derive(Clone, Copy)]
 pub struct Place {
     pub built: bool,
     // how many of each kind have been read

@@ -1,4 +1,6 @@
 // A list of records into the blocks of a file, and back.
+#![tactic(auto)]
+
 ghost use Rattle.std.specs.Prelude.{◌≡◌, ◌++◌, ◌+◌, ◌*◌, ◌/◌, ◌≤◌, ◌<◌, min, length, drop, replicate};
 ghost use Rattle.answers.specs.Answer.{written};
 ghost use Rattle.blocks.specs.File.{block_count, record_count};
@@ -50,7 +52,7 @@ fn put_block(records: &[u8], number: u32, last: bool, out: &mut [u8])
     let size = records.len();
     numbers::put_four(&mut out[0..4], number);
     put_count((size / 16) as u8, last, &mut out[4..8]);
-    bytes::copy(records, &mut out[8..8 + size]);
+    out[8..8 + size].copy_from_slice(records);
     clear(&mut out[8 + size..508]);
     let check = fnv::hash(&out[0..508]);
     numbers::put_four(&mut out[508..512], check);
@@ -107,7 +109,7 @@ fn put_records(file: &[u8], n: usize, out: &mut [u8])
     while b < n {
         let block = &file[512 * b..512 * b + 512];
         let used = 16 * index(block[4]);
-        bytes::copy(&block[8..8 + used], &mut out[496 * b..496 * b + used]);
+        out[496 * b..496 * b + used].copy_from_slice(&block[8..8 + used]);
         b += 1;
     }
 }

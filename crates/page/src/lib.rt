@@ -1,4 +1,6 @@
 // One line of a picture after the other, on a page: as text in comment lines, or as SVG. (docs/TEXT.md)
+#![tactic(auto)]
+
 mod marks;
 mod svg;
 mod typed;

@@ -1,5 +1,7 @@
 // The parts of a component in a list of records, whatever the verdict on it: nothing is assumed of the records' order or numbers, and
 // what is not there is answered so.
+#![tactic(auto)]
+
 use records::{Class, Port, Record, Source};
 
 // No record has this number.

@@ -1,5 +1,7 @@
 // A component's timetable as a picture: the lines of its own inputs, of its instances, and of its own outputs.
 // It goes by the records alone, so that a refused design is drawn too. (docs/TEXT.md)
+#![tactic(auto)]
+
 use page::{Label, Page, Shown, Style};
 use uses::Uses;
 

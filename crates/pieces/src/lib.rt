@@ -1,4 +1,6 @@
 // Pieces of text, gathered in lent bytes and written many at once. Each piece answers where the next one goes.
+#![tactic(auto)]
+
 ghost use Rattle.std.specs.Prelude.{◌+◌, ◌≤◌, ◌≡◌, length};
 
 use records::Source;

@@ -1,4 +1,6 @@
 // The numbers that follow from a record's place.
+#![tactic(auto)]
+
 ghost use Rattle.std.specs.Prelude.{◌≡◌};
 ghost use Rattle.places.specs.Places.{at_first, number_of, after};
 ghost use Rattle.places.specs.Places.{more as one_more};

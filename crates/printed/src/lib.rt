@@ -1,4 +1,6 @@
 // What `lower` and `list` print for a whole file, which is judged once.
+#![tactic(auto)]
+
 ghost use Rattle.printed.specs.Opens.{Opens};
 
 use answers::{Verdict, Written};

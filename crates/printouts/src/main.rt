@@ -1,5 +1,7 @@
 // What `lower` and `list` print for document 01's example, for a design with every kind of source, for a refused file, and for files that are hard to list.
 // It would catch a row, a source or a unit that is not the right one, a limit that is off by one, a count that wraps, and an expansion that never ends.
+#![tactic(auto)]
+
 ghost use Rattle.printed.specs.Opens.{Opens};
 
 use answers::{Verdict, Written};

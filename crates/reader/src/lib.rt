@@ -1,5 +1,7 @@
 // The reader of a component's records: what it keeps, which refusal a record meets with, and what it keeps after a record that meets with none.
 // The definitions are those of `specs/State.antt`; the theory of reading says what they are good for.
+#![tactic(auto)]
+
 ghost use Rattle.std.specs.Prelude.{◌≡◌, [], true, ◌+◌, ◌-◌, ◌*◌, ◌≤◌, ◌<◌, min, max, length};
 ghost use Rattle.timeline.specs.Design.{leaf};
 ghost use Rattle.timeline.specs.Rules.{SourceRange};
@@ -22,7 +24,7 @@ use records::{Class, Port, Record, Source};
 use signatures::Signature;
 
 // Of the component that is being read; and while an argument is due, the record of the input that it feeds and the invocation's offset.
-#[derive(Drop)]
+#[derive(Clone, Copy)]
 pub struct Reader {
     pub place: Place,
     pub delay: usize,
@@ -392,7 +394,7 @@ fn begin(k: Class, delay: u16, first: u16, number: usize) -> Reader
 }
 
 // A refusal's number, 0 for none, and what is kept where there is none.
-#[derive(Drop)]
+#[derive(Clone, Copy)]
 pub struct Outcome {
     pub refusal: u8,
     pub reader: Reader,

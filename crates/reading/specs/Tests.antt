@@ -5,7 +5,7 @@ use Rattle.std.proofs.Common.{ap, ◌∙◌, inl, inr, ⊎_elim, eqb→eq, ltb�
 use Rattle.std.proofs.Math.Dec.{eqb_refl}
 use Rattle.std.proofs.Math.Decide.{ℕ_discrete}
 use Rattle.timeline.specs.Design.{Class, leaf, built}
-use Rattle.entry.specs.Laws.{empty-of-length}
+use Rattle.entry.specs.Laws.{empty_of_length}
 
 -- A record, so that the test and the fact are found where they are left out.
 pub record Means (t : Bool) (P : Type 0) : Type 0 where
@@ -52,7 +52,7 @@ means_most m n = record { to = leb→le m n; from = le→leb m n }
 
 -- A count of 0 is a list with nothing in it.
 pub means_none : {A : Type 0} (n : ℕ) (xs : List A) → n ≡ length xs → Means (eqb n 0) (xs ≡ [])
-means_none n xs e = means_as (λ z. empty-of-length xs (let y = e in omega arith)) (λ h. e ∙ ap length h) (means_equal n 0)
+means_none n xs e = means_as (λ z. empty_of_length xs (let y = e in omega arith)) (λ h. e ∙ ap length h) (means_equal n 0)
 
 unfoldable pub is_built : Class → Bool
 is_built leaf = false

@@ -1,5 +1,7 @@
 // Why a file is refused: a sentence in the words of the rules and the numbers of the file.
 // Nothing is assumed of the records; what a record names and is not there is left out.
+#![tactic(auto)]
+
 mod found;
 mod sources;
 

@@ -1,18 +1,20 @@
 // One record: sixteen bytes, decoded.
+#![tactic(auto)]
+
 ghost use Rattle.std.specs.Prelude.{◌≡◌, length, drop};
 ghost use Rattle.numbers.specs.Numbers.{all_zero};
 ghost use Rattle.blocks.specs.Block.{part};
 ghost use Rattle.records.specs.Decoded.{component_in, port_in, instance_in, invocation_in, source_in, decoded};
 ghost use Rattle.records.specs.Says.{says, says_source};
 
-#[derive(Drop)]
+#[derive(Clone, Copy)]
 pub enum Class {
     Leaf,
     Built,
 }
 
 // The cycles from `start` up to `end` after the event, and so many bits.
-#[derive(Drop)]
+#[derive(Clone, Copy)]
 pub struct Port {
     pub start: u16,
     pub end: u16,
@@ -20,7 +22,7 @@ pub struct Port {
 }
 
 // Where a value comes from.
-#[derive(Drop)]
+#[derive(Clone, Copy)]
 pub enum Source {
     // an own input
     Own(u16),
@@ -30,12 +32,12 @@ pub enum Source {
 }
 
 // What an input of an invocation is given.
-#[derive(Drop)]
+#[derive(Clone, Copy)]
 pub struct Argument {
     pub source: Source,
 }
 
-#[derive(Drop)]
+#[derive(Clone, Copy)]
 pub enum Record {
     // the class and the delay
     Component(Class, u16),
@@ -52,7 +54,7 @@ pub enum Record {
 }
 
 // What an argument or connection record names, if it is right.
-#[derive(Drop)]
+#[derive(Clone, Copy)]
 pub enum Sourced {
     From(Source),
     Wrong,

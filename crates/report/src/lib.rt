@@ -1,4 +1,6 @@
 // How the programs say their answers: the words of document 01 and the user's numbers.
+#![tactic(auto)]
+
 use answers::{Refusal, Verdict};
 
 // "A refusal prints only `refused 11 at 12`, with its numbers."

@@ -14,8 +14,8 @@ use Rattle.look.specs.Look.{look}
 use Rattle.timetable.specs.Lists.{list_below}
 use Rattle.timetable.specs.Rows.{Row, go}
 use Rattle.timetable.specs.Bytes.{row_bytes, rows_bytes}
-use Rattle.timetable.specs.Laws.{length_bytes, bytes-append}
-use Rattle.timetable.specs.Proofs.Lists.{length-list}
+use Rattle.timetable.specs.Laws.{length_bytes, bytes_append}
+use Rattle.timetable.specs.Proofs.Lists.{length_list}
 use Rattle.rows.specs.declared.Use.{Use}
 use Rattle.rows.specs.Rows.{latest, guard_row, output_row}
 
@@ -33,7 +33,7 @@ pub rows_more : (l m : List Row) (d out ys : List ℕ) (a e : ℕ) → 16 * leng
 rows_more l m d out ys a e hl he h y =
     let k = length_bytes l in
     let n = length_bytes m in
-    rw (bytes-append l m, y) (next_part (rows_bytes l) (rows_bytes m) d out a e h (omega arith) (omega arith))
+    rw (bytes_append l m, y) (next_part (rows_bytes l) (rows_bytes m) d out a e h (omega arith) (omega arith))
 
 -- One row behind those that are done.
 pub row_more : (l : List Row) (r : Row) (d out ys : List ℕ) (a : ℕ) → 16 * length l ≡ a → out ≡ rows_bytes l ++ drop a d → ys ≡ row_bytes r
@@ -80,7 +80,7 @@ module _ (file : List ℕ) (u : Use) where
   begun n = go u.number u.instance u.offset ∷ list_below n (guard_row file u)
 
   pub length_begun : (n : ℕ) → 16 * length (begun n) ≡ 16 + 16 * n
-  length_begun n = let k = length-list n (guard_row file u) in omega arith
+  length_begun n = let k = length_list n (guard_row file u) in omega arith
 
   pub guard_more : (n a : ℕ) (d out ys : List ℕ) → a ≡ 16 + 16 * n → out ≡ rows_bytes (begun n) ++ drop a d → ys ≡ row_bytes (guard_row file u n)
       → take a out ++ (ys ++ drop (a + 16 - a) (drop a out)) ≡ rows_bytes (begun (n + 1)) ++ drop (16 + 16 * (n + 1)) d
@@ -94,7 +94,7 @@ module _ (r : ℕ) where
   connected n = list_below n (λ o. output_row o (r + o))
 
   pub length_connected : (n : ℕ) → 16 * length (connected n) ≡ 16 * n
-  length_connected n = let k = length-list n (λ o. output_row o (r + o)) in omega arith
+  length_connected n = let k = length_list n (λ o. output_row o (r + o)) in omega arith
 
   pub output_more : (n a : ℕ) (d out ys : List ℕ) → a ≡ 16 * n → out ≡ rows_bytes (connected n) ++ drop a d → ys ≡ row_bytes (output_row n (r + n))
       → take a out ++ (ys ++ drop (a + 16 - a) (drop a out)) ≡ rows_bytes (connected (n + 1)) ++ drop (16 * (n + 1)) d

@@ -1,4 +1,6 @@
 // The rows of one invocation and of own outputs, written as bytes; and the latest end of ports.
+#![tactic(auto)]
+
 ghost use Rattle.std.specs.Prelude.{◌≡◌, ℕ, ◌+◌, ◌-◌, ◌*◌, ◌≤◌, ◌<◌, max, length};
 ghost use Rattle.timetable.specs.Rows.{register, go, guard};
 ghost use Rattle.timetable.specs.Bytes.{number_bytes, row_bytes, rows_bytes};

@@ -1,4 +1,6 @@
 // The rules of one record on values, refusals 7 to 12: the number of the first that it breaks, 0 for none.
+#![tactic(auto)]
+
 ghost use Rattle.std.specs.Prelude.{◌≡◌, true, cond, ◌+◌, ◌-◌, ◌^◌, ◌≤◌, ◌<◌, min, leb, ltb};
 ghost use Rattle.reading.specs.Tests.{every_below};
 ghost use Rattle.reading.specs.Reader.{fed_tests, constant_tests, stands_apart, within_span, invocation_tests};

@@ -1,4 +1,6 @@
 // One line of text as a record: the sentences that docs/TEXT.md lists.
+#![tactic(auto)]
+
 mod parts;
 mod raw;
 mod wanted;

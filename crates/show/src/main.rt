@@ -1,6 +1,8 @@
 // The file on standard input as text: its records, then the timetable of each built component as a picture; or `refused N at P`, where its
 // blocks do not pass. With `--svg`, the picture of one component as SVG instead: of the last, or of the one whose number follows, which is
 // refusal 14 where it is absent.
+#![tactic(auto)]
+
 use answers::{Refusal, Written, fault};
 use libc::{STDERR_FILENO, STDIN_FILENO, STDOUT_FILENO};
 use words::Word;

@@ -1,4 +1,6 @@
 // Records as lines of text, as docs/TEXT.md has them.
+#![tactic(auto)]
+
 ghost use Rattle.std.specs.Prelude.{◌+◌, ◌≤◌, ◌≡◌, length};
 
 use places::Place;

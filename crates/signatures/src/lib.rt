@@ -1,10 +1,12 @@
 // The lent table: "one row for each component: class, delay, port counts, first record". Thin functions that read a row, store one, and set all of them to zero.
+#![tactic(auto)]
+
 ghost use Rattle.std.specs.Prelude.{◌≡◌, ◌+◌, ◌<◌, length, set, get_or, replicate};
 ghost use Rattle.signatures.specs.Rows.{zero_row};
 
 // Class: 0 leaf, 1 built. Plain numbers, so that a host in another language can hold it.
 #[repr(C)]
-#[derive(Drop)]
+#[derive(Clone, Copy)]
 pub struct Signature {
     pub class: u16,
     pub delay: u16,

@@ -1,4 +1,6 @@
 // Text, read: the words of a line one after the other, and what was expected where it stops making sense. (docs/TEXT.md)
+#![tactic(auto)]
+
 mod cursor;
 mod letters;
 

@@ -7,10 +7,10 @@ use Rattle.timeline.specs.Rules.{Holds, Lawful}
 use Rattle.timeline.specs.Uses.{Spaced, reach, PathOf, unit, after, lasts, Found}
 use Rattle.timeline.specs.Wires.{Pin, pin, Carries}
 use Rattle.timeline.specs.Proofs.Down.{Started}
-use Rattle.timeline.specs.Proofs.Apart.{not-again}
-use Rattle.timeline.specs.Proofs.Once.{input-once}
-use Rattle.timeline.specs.Proofs.Offered.{connection-offered}
-use Rattle.timeline.specs.Proofs.Follow.{offered-found}
+use Rattle.timeline.specs.Proofs.Apart.{not_again}
+use Rattle.timeline.specs.Proofs.Once.{input_once}
+use Rattle.timeline.specs.Proofs.Offered.{connection_offered}
+use Rattle.timeline.specs.Proofs.Follow.{offered_found}
 use Rattle.timeline.specs.Proofs.Carried.{Offers, carried, alone}
 
 module _ (D : Design) (top : ℕ) (S : ℕ → Type 0) where
@@ -65,7 +65,7 @@ own_delay_is D top (j ∷ p) = refl
 offered_read : {D : Design} {top : ℕ} {S : ℕ → Type 0} → Started D top S → (t : ℕ) → S t
     → (p : List ℕ) (r : Source) (x : ℕ) → PathOf D top p → Offers D top t x p r → Read D top S t p r x
 offered_read {D} {top} {S} g t s p r x w o =
-    let f : Found D top S t p r x = offered-found g t s p w r x o in
+    let f : Found D top S t p r x = offered_found g t s p w r x o in
     record {
       found = f;
       carried = carried g t s x f.from w o;
@@ -76,8 +76,8 @@ pub demand_3 : (D : Design) → Lawful D → (top : ℕ) → top < length D → 
 demand_3 D lawful top there is_built S starts =
     let g : Started D top S = record { placed = record { lawful = lawful; there = there }; starts = starts } in
     record {
-      apart = λ u v e l. not-again g u.start v.start u.started v.started u.path v.path u.is_path v.is_path e l;
-      driven_once = λ u v e i x l h k. input-once g u.start v.start u.path v.path x u.started v.started u.is_path v.is_path e i l h k;
+      apart = λ u v e l. not_again g u.start v.start u.started v.started u.path v.path u.is_path v.is_path e l;
+      driven_once = λ u v e i x l h k. input_once g u.start v.start u.path v.path x u.started v.started u.is_path v.is_path e i l h k;
       inputs_read = λ u i x l h. offered_read g u.start u.started u.path (own i) x u.is_path (l, h);
-      outputs_read = λ t o x s l h. offered_read g t s [] (connection D top o) x tt (connection-offered g.placed t [] o x tt is_built l (omega arith));
+      outputs_read = λ t o x s l h. offered_read g t s [] (connection D top o) x tt (connection_offered g.placed t [] o x tt is_built l (omega arith));
     }

@@ -2,10 +2,10 @@
 -- Assumes nothing.
 
 -- n covers what it is the greatest of, and nothing less does.
-pub use Rattle.timetable.specs.Proofs.States.{states-cover, states-least, states-only}
+pub use Rattle.timetable.specs.Proofs.States.{states_cover, states_least, states_only}
 -- A component's rows are those that Places tells; they grow invocation by invocation, and no other list has each in its place.
-pub use Rattle.timetable.specs.Proofs.Rows.{rows_are, rows_next, rows_last, length-invocation, length_before, length_rows, row_at, place-has, rows-only}
+pub use Rattle.timetable.specs.Proofs.Rows.{rows_are, rows_next, rows_last, length_invocation, length_before, length_rows, row_at, place_has, rows_only}
 -- Rows that are right in any other order, with guards split in any way, drive the same.
-pub use Rattle.timetable.specs.Proofs.Right.{Guarded, Wanted, Right, rows_right, drives-exactly, starts-exactly, connects-exactly}
+pub use Rattle.timetable.specs.Proofs.Right.{Guarded, Wanted, Right, rows_right, drives_exactly, starts_exactly, connects_exactly}
 -- Sixteen bytes a row, joined as the rows are, and each a byte where the rows' numbers fit.
-pub use Rattle.timetable.specs.Proofs.Bytes.{length-row, length_bytes, bytes-append, rows-are-bytes, rows_back}
+pub use Rattle.timetable.specs.Proofs.Bytes.{length_row, length_bytes, bytes_append, rows_are_bytes, rows_back}

@@ -16,8 +16,8 @@ use Rattle.timetable.specs.Places.{RowOf, row_count, place}
 use Rattle.timetable.specs.Bytes.{rows_bytes, read_rows}
 use Rattle.timetable.specs.Register.{Active, bits_in}
 use Rattle.timetable.specs.Lowered.{Lowered, Wired}
-use Rattle.timetable.specs.Proofs.Rows.{length_rows, row_at, place-has}
-use Rattle.timetable.specs.Proofs.Register.{set-exactly}
+use Rattle.timetable.specs.Proofs.Rows.{length_rows, row_at, place_has}
+use Rattle.timetable.specs.Proofs.Register.{set_exactly}
 use Rattle.timetable.specs.Proofs.Bytes.{rows_back}
 use Rattle.timetable.specs.Proofs.Ensured.{lowered, wired}
 
@@ -54,7 +54,7 @@ module _ (D : Design) (c : ℕ) where
   row_in_place none r h = row_at D c none r h
 
   pub place_of_row : (none : Row) (i : ℕ) → i < row_count D c → RowOf D c (get_or (rows D c) i none) × (place D c (get_or (rows D c) i none) ≡ i)
-  place_of_row none i l = place-has D c none i l
+  place_of_row none i l = place_has D c none i l
 
 -- Rows are read back from their bytes, whatever bytes follow.
 pub bytes_read_back : (l : List Row) (more : List ℕ) → read_rows (length l) (rows_bytes l ++ more) ≡ l
@@ -62,4 +62,4 @@ bytes_read_back l more = rows_back l more
 
 -- In a register of n states that runs on start bits s, bit i is set in cycle x exactly when state i is active.
 pub register_runs : (n : ℕ) (s : ℕ → Bool) (x i : ℕ) → (get_or (bits_in n s x) i false ≡ true) ↔ ((t : ℕ) × Active n (λ y. s y ≡ true) x i t)
-register_runs n s x i = set-exactly n s x i
+register_runs n s x i = set_exactly n s x i

@@ -1,5 +1,7 @@
 // There and back: lists of several lengths are packed, unpacked and compared, and each refusal of the blocks is shown with its position.
 // It would catch a block or a slot lost at a seam, and a refusal given at the wrong place or in the wrong order.
+#![tactic(auto)]
+
 use answers::{Counted, Lookup, Written};
 use libc::STDOUT_FILENO;
 

@@ -1,4 +1,6 @@
 // A file on standard input; its list of records on standard output. A refusal goes to standard error, and nothing to standard output.
+#![tactic(auto)]
+
 use answers::Written;
 use libc::{STDERR_FILENO, STDIN_FILENO, STDOUT_FILENO};
 

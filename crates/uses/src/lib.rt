@@ -1,4 +1,6 @@
 // The uses of one component's instances, and when what they read is there: what its picture is drawn from.
+#![tactic(auto)]
+
 ghost use Rattle.std.specs.Prelude.{◌<◌};
 
 use parts::NONE;

@@ -1,4 +1,6 @@
 // Published vectors of 32-bit FNV-1a: each line has the text, its hash, and the hash that the publication gives.
+#![tactic(auto)]
+
 use libc::STDOUT_FILENO;
 
 fn vector(text: &[u8], published: u64) {

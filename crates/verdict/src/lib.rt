@@ -1,5 +1,7 @@
 // The verdict on a file: its blocks, then its records component by component, with a lent table of one row for each component.
 // The functions that hold the table do nothing else; whatever is decided is decided by functions on values.
+#![tactic(auto)]
+
 ghost use Rattle.std.specs.Prelude.{◌≡◌, true, false, ℕ, ◌+◌, ◌-◌, ◌*◌, ◌/◌, ◌≤◌, ◌<◌, length, replicate};
 ghost use Rattle.answers.specs.Answer.{judged};
 ghost use Rattle.reading.specs.Reader.{Row};

@@ -1,4 +1,6 @@
 // Words of a command line: which number a word says.
+#![tactic(auto)]
+
 ghost use Rattle.std.specs.Prelude.{◌≡◌};
 ghost use Rattle.words.specs.Said.{said, goes_on};
 

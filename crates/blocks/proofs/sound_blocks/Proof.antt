@@ -4,7 +4,7 @@ use Prim.Native.Nat.{ℕ, ◌+◌, ◌-◌, ◌*◌, ◌/◌, ◌≤◌}
 use mathlib.Core.Path.{◌≡◌, ap, sym, ◌∙◌}
 use native.Mathlib.Nat.{sub-zero}
 use lib.ListN.{length}
-use borrow.Author.Tests.{not-true, not-false}
+use borrow.Author.Tests.{not_true, not-false}
 use borrow.Author.Rules.{rules}
 use Rattle.answers.specs.Answer.{accepted, refused}
 use Rattle.blocks.specs.File.{record_count, sound_from}
@@ -46,7 +46,7 @@ at-requires : tie.Need-at-requires invariant-loop decreases-loop
 at-requires c κs = search rules
 
 returns : tie.Need-returns invariant-loop decreases-loop
-returns c = let e = sound_check _ _ c.before.before.before.before.loop-test.true (sym c.before.before.check_right.ensures ∙ not-true _ c.before.if1.true) in
+returns c = let e = sound_check _ _ c.before.before.before.before.loop-test.true (sym c.before.before.check_right.ensures ∙ not_true _ c.before.if1.true) in
     ap refused c.at.ensures ∙ sym e ∙ c.before.before.before.before.before.loop.invariant.1
 
 add-header-right : tie.Need-overflow-add-header-right invariant-loop decreases-loop
@@ -59,7 +59,7 @@ at-requires-2 : tie.Need-at-requires-2 invariant-loop decreases-loop
 at-requires-2 c κs = search rules
 
 returns-2 : tie.Need-returns-2 invariant-loop decreases-loop
-returns-2 c = let e = sound_header _ _ c.before.before.before.before.before.before.loop-test.true (sym c.before.before.before.before.check_right.ensures ∙ not-false _ c.before.before.before.if1.false) (sym c.before.before.header_right.ensures ∙ not-true _ c.before.if2.true) in
+returns-2 c = let e = sound_header _ _ c.before.before.before.before.before.before.loop-test.true (sym c.before.before.before.before.check_right.ensures ∙ not-false _ c.before.before.before.if1.false) (sym c.before.before.header_right.ensures ∙ not_true _ c.before.if2.true) in
     ap refused c.at2.ensures ∙ sym e ∙ c.before.before.before.before.before.before.before.loop.invariant.1
 
 add-b : tie.Need-overflow-add-b invariant-loop decreases-loop

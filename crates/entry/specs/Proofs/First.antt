@@ -6,28 +6,28 @@ use Rattle.entry.specs.Asks.{Asks}
 use Rattle.entry.specs.Answers.{Broken, FirstBroken}
 use Rattle.entry.specs.Proofs.Good.{Keeps}
 
-pub kept-unbroken : (l : Asks) → Keeps l → (m : ℕ) → ¬ (Broken l m)
+pub kept_unbroken : (l : Asks) → Keeps l → (m : ℕ) → ¬ (Broken l m)
 unfolding Broken
-kept-unbroken [] k m b = b
-kept-unbroken (a ∷ l) k m b = ⊎_elim (λ x. x.1 k.0) (kept-unbroken l k.1 m) b
+kept_unbroken [] k m b = b
+kept_unbroken (a ∷ l) k m b = ⊎_elim (λ x. x.1 k.0) (kept_unbroken l k.1 m) b
 
-pub first-here : (a : ℕ × Type 0) (l : Asks) → ¬ a.1 → FirstBroken (a ∷ l) a.0
+pub first_here : (a : ℕ × Type 0) (l : Asks) → ¬ a.1 → FirstBroken (a ∷ l) a.0
 unfolding FirstBroken
-first-here a l n = inl (refl, n)
+first_here a l n = inl (refl, n)
 
-pub first-later : (a : ℕ × Type 0) (l : Asks) (n : ℕ) → a.1 → FirstBroken l n → FirstBroken (a ∷ l) n
+pub first_later : (a : ℕ × Type 0) (l : Asks) (n : ℕ) → a.1 → FirstBroken l n → FirstBroken (a ∷ l) n
 unfolding FirstBroken
-first-later a l n y h = inr (y, h)
+first_later a l n y h = inr (y, h)
 
-pub first-broken : (l : Asks) (n : ℕ) → FirstBroken l n → Broken l n
+pub first_broken : (l : Asks) (n : ℕ) → FirstBroken l n → Broken l n
 unfolding FirstBroken Broken
-first-broken [] n b = b
-first-broken (a ∷ l) n b = ⊎_elim inl (λ x. inr (first-broken l n x.1)) b
+first_broken [] n b = b
+first_broken (a ∷ l) n b = ⊎_elim inl (λ x. inr (first_broken l n x.1)) b
 
-pub one-first : (l : Asks) (n m : ℕ) → FirstBroken l n → FirstBroken l m → n ≡ m
+pub one_first : (l : Asks) (n m : ℕ) → FirstBroken l n → FirstBroken l m → n ≡ m
 unfolding FirstBroken
-one-first [] n m b c = absurd b
-one-first (a ∷ l) n m b c = go (one-first l n m) b c
+one_first [] n m b c = absurd b
+one_first (a ∷ l) n m b c = go (one_first l n m) b c
   where
     go : (FirstBroken l n → FirstBroken l m → n ≡ m) → ((n ≡ a.0) × (¬ a.1)) ⊎ (a.1 × FirstBroken l n) → ((m ≡ a.0) × (¬ a.1)) ⊎ (a.1 × FirstBroken l m) → n ≡ m
     go same (inl x) (inl y) = let p = x.0 in let q = y.0 in cc

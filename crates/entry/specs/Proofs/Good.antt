@@ -37,8 +37,8 @@ module _ (E : List Component) (C : Component) where
   abbrev pub Even : Type 0
   Even = length C.arguments ≡ length C.calls
 
-  abbrev pub Ports-only : Type 0
-  Ports-only = C.class ≡ leaf → (C.instances ≡ []) × (C.calls ≡ []) × (C.connections ≡ [])
+  abbrev pub PortsOnly : Type 0
+  PortsOnly = C.class ≡ leaf → (C.instances ≡ []) × (C.calls ≡ []) × (C.connections ≡ [])
 
   pub record Good : Type 0 where
     pub delay : InRange (component C.class C.delay)
@@ -50,7 +50,7 @@ module _ (E : List Component) (C : Component) where
     pub connections : (o : ℕ) → o < length C.connections → Fed (length C.calls) (get_or C.connections o (constant 0)) (get_or C.outputs o no_port) 0
     pub counted : Counted
     pub even : Even
-    pub ports-only : Ports-only
+    pub ports_only : PortsOnly
 
   -- Good, and nothing of it is missing.
   abbrev pub Finished : Type 0
@@ -60,7 +60,7 @@ module _ (E : List Component) (C : Component) where
 abbrev pub All : Design → (List Component → Component → Type 0) → Type 0
 All D P = (c : ℕ) → c < length D → P (take c D) (get_or D c no_component)
 
-pub record All-finished (D : Design) : Type 0 where
+pub record AllFinished (D : Design) : Type 0 where
   pub each : All D Finished
   pub some : 0 < length D
   pub few : length D ≤ 64

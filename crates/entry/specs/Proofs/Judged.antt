@@ -13,7 +13,7 @@ use Rattle.entry.specs.Decide.{Decided, decide, decide_end}
 use Rattle.entry.specs.Answers.{FirstBroken}
 use Rattle.entry.specs.Verdict.{first, judge}
 use Rattle.entry.specs.Proofs.Good.{Keeps}
-use Rattle.entry.specs.Proofs.First.{first-here, first-later}
+use Rattle.entry.specs.Proofs.First.{first_here, first_later}
 use Rattle.entry.specs.Proofs.Unbroken.{Unbroken, Stops}
 
 -- What `first` answers, with its ground.
@@ -28,8 +28,8 @@ found (a ∷ l) d tell k = go d.0 (found l d.1 tell k)
   where
     go : (x : Dec a.1) → Found l tell k (first l d.1 tell k) → Found (a ∷ l) tell k (first (a ∷ l) (x, d.1) tell k)
     go (yes y) (kept h e) = kept (y, h) e
-    go (yes y) (broken n h e) = broken n (first-later a l n y h) e
-    go (no y) f = broken a.0 (first-here a l y) refl
+    go (yes y) (broken n h e) = broken n (first_later a l n y h) e
+    go (no y) f = broken a.0 (first_here a l y) refl
 
 -- So many components and records.
 abbrev counting : Entered → ℕ → Answer Counts

@@ -14,29 +14,29 @@ use Rattle.entry.specs.Lists.{add_last, change_last}
 pub none_in_empty : {A : Type 0} (xs : List A) (i : ℕ) → xs ≡ [] → i < length xs → ⊥
 none_in_empty xs i e l = let z : length xs ≡ 0 = ap length e in omega arith
 
-pub empty-of-length : {A : Type 0} (xs : List A) → length xs ≡ 0 → xs ≡ []
-empty-of-length [] e = refl
-empty-of-length (x ∷ xs) e = absurd (omega arith)
+pub empty_of_length : {A : Type 0} (xs : List A) → length xs ≡ 0 → xs ≡ []
+empty_of_length [] e = refl
+empty_of_length (x ∷ xs) e = absurd (omega arith)
 
-pub map-add-last : {A B : Type 0} (f : A → B) (xs : List A) (x : A) → map f (add_last xs x) ≡ map f xs ++ (f x ∷ [])
+pub map_add_last : {A B : Type 0} (f : A → B) (xs : List A) (x : A) → map f (add_last xs x) ≡ map f xs ++ (f x ∷ [])
 unfolding add_last
-map-add-last f [] x = refl
-map-add-last f (y ∷ xs) x = ap (f y ∷◌) (map-add-last f xs x)
+map_add_last f [] x = refl
+map_add_last f (y ∷ xs) x = ap (f y ∷◌) (map_add_last f xs x)
 
-pub add-last-append : {A : Type 0} (xs : List A) (x : A) (ys : List A) → add_last xs x ++ ys ≡ xs ++ x ∷ ys
+pub add_last_append : {A : Type 0} (xs : List A) (x : A) (ys : List A) → add_last xs x ++ ys ≡ xs ++ x ∷ ys
 unfolding add_last
-add-last-append xs x ys = append_snoc xs x ys
+add_last_append xs x ys = append_snoc xs x ys
 
-pub change-last-add-last : {A : Type 0} (f : A → A) (xs : List A) (x : A) → change_last f (add_last xs x) ≡ add_last xs (f x)
+pub change_last_add_last : {A : Type 0} (f : A → A) (xs : List A) (x : A) → change_last f (add_last xs x) ≡ add_last xs (f x)
 unfolding change_last add_last
-change-last-add-last f [] x = refl
-change-last-add-last f (y ∷ []) x = refl
-change-last-add-last f (y ∷ z ∷ xs) x = ap (y ∷◌) (change-last-add-last f (z ∷ xs) x)
+change_last_add_last f [] x = refl
+change_last_add_last f (y ∷ []) x = refl
+change_last_add_last f (y ∷ z ∷ xs) x = ap (y ∷◌) (change_last_add_last f (z ∷ xs) x)
 
 module _ {A : Type 0} where
-  pub length-add-last : (xs : List A) (x : A) → length (add_last xs x) ≡ suc (length xs)
+  pub length_add_last : (xs : List A) (x : A) → length (add_last xs x) ≡ suc (length xs)
   unfolding add_last
-  length-add-last xs x = let e = length-append xs (x ∷ []) in omega arith
+  length_add_last xs x = let e = length-append xs (x ∷ []) in omega arith
 
   pub at_old : (d : A) (xs : List A) (x : A) (i : ℕ) → i < length xs → get_or (add_last xs x) i d ≡ get_or xs i d
   unfolding add_last
@@ -48,11 +48,11 @@ module _ {A : Type 0} where
   at_new d (y ∷ xs) x = at_new d xs x
 
 module _ {A : Type 0} (d : A) (f : A → A) where
-  pub length-change-last : (xs : List A) → length (change_last f xs) ≡ length xs
+  pub length_change_last : (xs : List A) → length (change_last f xs) ≡ length xs
   unfolding change_last
-  length-change-last [] = refl
-  length-change-last (x ∷ []) = refl
-  length-change-last (x ∷ y ∷ xs) = ap suc (length-change-last (y ∷ xs))
+  length_change_last [] = refl
+  length_change_last (x ∷ []) = refl
+  length_change_last (x ∷ y ∷ xs) = ap suc (length_change_last (y ∷ xs))
 
   pub at_last : (xs : List A) (i : ℕ) → suc i ≡ length xs → get_or (change_last f xs) i d ≡ f (get_or xs i d)
   unfolding change_last
@@ -84,19 +84,19 @@ module _ {A : Type 0} (d : A) where
       where
         go : Dec (i ≡ length xs) → P (get_or (add_last xs x) i d)
         go (yes e) = rw (e, at_new d xs x) n
-        go (no m) = let k : i < length xs = let z = length-add-last xs x in omega arith in rw (at_old d xs x i k) (h i k)
+        go (no m) = let k : i < length xs = let z = length_add_last xs x in omega arith in rw (at_old d xs x i k) (h i k)
 
-    pub each-less : Each P (add_last xs x) → Each P xs × P x
-    each-less h =
-        let z = length-add-last xs x in
+    pub each_less : Each P (add_last xs x) → Each P xs × P x
+    each_less h =
+        let z = length_add_last xs x in
         (λ i l. rw (at_old d xs x i l) at (h i (omega arith)), rw (at_new d xs x) at (h (length xs) (omega arith)))
 
   module _ (P : A → A → Type 0) (xs : List A) (x : A) where
-    pub pairs-more : Pairs P xs → Each (λ a. P a x × P x a) xs → Pairs P (add_last xs x)
-    pairs-more h n i j l k m = go (ℕ_discrete i (length xs)) (ℕ_discrete j (length xs))
+    pub pairs_more : Pairs P xs → Each (λ a. P a x × P x a) xs → Pairs P (add_last xs x)
+    pairs_more h n i j l k m = go (ℕ_discrete i (length xs)) (ℕ_discrete j (length xs))
       where
         old : (i : ℕ) → i < length (add_last xs x) → (i ≡ length xs → ⊥) → i < length xs
-        old i l e = let z = length-add-last xs x in omega arith
+        old i l e = let z = length_add_last xs x in omega arith
 
         go : Dec (i ≡ length xs) → Dec (j ≡ length xs) → P (get_or (add_last xs x) i d) (get_or (add_last xs x) j d)
         go (yes e) (yes f) = absurd (m (e ∙ sym f))
@@ -104,9 +104,9 @@ module _ {A : Type 0} (d : A) where
         go (no e) (yes f) = rw (f, at_new d xs x, at_old d xs x i (old i l e)) (n i (old i l e)).0
         go (no e) (no f) = rw (at_old d xs x i (old i l e), at_old d xs x j (old j k f)) (h i j (old i l e) (old j k f) m)
 
-    pub pairs-less : Pairs P (add_last xs x) → Pairs P xs × Each (λ a. P a x × P x a) xs
-    pairs-less h =
-        let z = length-add-last xs x in (
+    pub pairs_less : Pairs P (add_last xs x) → Pairs P xs × Each (λ a. P a x × P x a) xs
+    pairs_less h =
+        let z = length_add_last xs x in (
           λ i j l k m. rw (at_old d xs x i l, at_old d xs x j k) at (h i j (omega arith) (omega arith) m),
           λ i l. (
             rw (at_old d xs x i l, at_new d xs x) at (h i (length xs) (omega arith) (omega arith) (omega arith)),

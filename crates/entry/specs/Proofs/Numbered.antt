@@ -12,44 +12,44 @@ use Rattle.entry.specs.Lists.{add_last}
 use Rattle.entry.specs.Records
 use Rattle.entry.specs.Records.{invocations, parts, records}
 use Rattle.entry.specs.Numbers.{component_number, input_number, output_number, instance_number, connection_number}
-use Rattle.entry.specs.Proofs.Grown.{records-component}
-use Rattle.entry.specs.Proofs.Standing.{up_to, rest, up-to-next, of-argument, first-invocation, invocation-up-to}
+use Rattle.entry.specs.Proofs.Grown.{records_component}
+use Rattle.entry.specs.Proofs.Standing.{up_to, rest, up_to_next, of_argument, first_invocation, invocation_up_to}
 
 -- The records of the calls, with their arguments.
-length-invocations : (calls : List Call) (lists : List (List Source)) → length (invocations calls lists) ≡ up_to lists (length calls)
+length_invocations : (calls : List Call) (lists : List (List Source)) → length (invocations calls lists) ≡ up_to lists (length calls)
 unfolding invocations up_to
-length-invocations [] lists = refl
-length-invocations (v ∷ calls) lists =
-    let h = length-invocations calls (rest lists) in
-    let z = up-to-next lists (length calls) in
-    let y = length-append (map of-argument (get_or lists 0 [])) (invocations calls (rest lists)) in
-    let x = length-map (get_or lists 0 []) of-argument in
-    let e = ap length (first-invocation v calls lists) in
+length_invocations [] lists = refl
+length_invocations (v ∷ calls) lists =
+    let h = length_invocations calls (rest lists) in
+    let z = up_to_next lists (length calls) in
+    let y = length-append (map of_argument (get_or lists 0 [])) (invocations calls (rest lists)) in
+    let x = length-map (get_or lists 0 []) of_argument in
+    let e = ap length (first_invocation v calls lists) in
     omega arith
 
 module _ (D : Design) where
-  pub first-component : component_number D 0 ≡ 0
+  pub first_component : component_number D 0 ≡ 0
   unfolding component_number records
-  first-component = refl
+  first_component = refl
 
-  pub all-components : component_number D (length D) ≡ length (records D)
+  pub all_components : component_number D (length D) ≡ length (records D)
   unfolding component_number
-  all-components = rw (take-length D)
+  all_components = rw (take-length D)
 
   module _ (c : ℕ) (present : c < length D) where
     abbrev C : Component
     C = component D c
 
-    length-parts : suc (length (parts C)) + component_number D c ≡ connection_number D c (connection_count D c)
+    length_parts : suc (length (parts C)) + component_number D c ≡ connection_number D c (connection_count D c)
     unfolding parts component input_number output_number instance_number connection_number input_count output_count instance_count invocation_count connection_count
-    length-parts =
-        let h = invocation-up-to D [] c present (length C.calls) in
-        let z = length-invocations C.calls C.arguments in
+    length_parts =
+        let h = invocation_up_to D [] c present (length C.calls) in
+        let z = length_invocations C.calls C.arguments in
         simp (length-append, length-map) (omega arith)
 
-    pub next-component : component_number D (suc c) ≡ connection_number D c (connection_count D c)
+    pub next_component : component_number D (suc c) ≡ connection_number D c (connection_count D c)
     unfolding component_number add_last component
-    next-component = rw (take-suc D c no_component present, records-component (take c D) C) (
-        let h = length-parts in
+    next_component = rw (take-suc D c no_component present, records_component (take c D) C) (
+        let h = length_parts in
         let z = length-append (records (take c D)) (Records.component C.class C.delay ∷ parts C) in
         omega arith)

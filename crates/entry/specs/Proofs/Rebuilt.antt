@@ -9,13 +9,13 @@ use Rattle.timeline.specs.Design.{Design, Component, Call, Port, Source, Class, 
 use Rattle.entry.specs.Lists.{add_last}
 use Rattle.entry.specs.Records.{input, output, instance, argument, connection, Record, part, invocations, parts, records}
 use Rattle.entry.specs.Entered.{Entered, nothing, after, new, enter_all, said, design}
-use Rattle.entry.specs.Proofs.Lists.{add-last-append, change-last-add-last}
+use Rattle.entry.specs.Proofs.Lists.{add_last_append, change_last_add_last}
 use Rattle.entry.specs.Proofs.Good.{Even, All}
 
-pub enter-append : (e : Entered) (xs ys : List Record) → enter_all e (xs ++ ys) ≡ enter_all (enter_all e xs) ys
+pub enter_append : (e : Entered) (xs ys : List Record) → enter_all e (xs ++ ys) ≡ enter_all (enter_all e xs) ys
 unfolding enter_all
-enter-append e [] ys = refl
-enter-append e (x ∷ xs) ys = enter-append _ xs ys
+enter_append e [] ys = refl
+enter_append e (x ∷ xs) ys = enter_append _ xs ys
 
 -- As much of a component as has been entered.
 abbrev pub made : Class → ℕ → List Port → List Port → List ℕ → List Call → List (List Source) → List Source → Component
@@ -24,65 +24,65 @@ made k d inputs outputs instances calls arguments connections =
 
 -- What is done of a group of records, and what more of it follows.
 module _ (E : List Component) (k : Class) (d : ℕ) where
-  pub enter-inputs : (done more : List Port) → enter_all (after E (made k d done [] [] [] [] [])) (map (λ p. part (input p)) more) ≡ after E (made k d (done ++ more) [] [] [] [] [])
+  pub enter_inputs : (done more : List Port) → enter_all (after E (made k d done [] [] [] [] [])) (map (λ p. part (input p)) more) ≡ after E (made k d (done ++ more) [] [] [] [] [])
   unfolding enter_all
-  enter-inputs done [] = rw (append-nil done)
-  enter-inputs done (p ∷ more) = rw (add-last-append done p more) at (enter-inputs (add_last done p) more)
+  enter_inputs done [] = rw (append-nil done)
+  enter_inputs done (p ∷ more) = rw (add_last_append done p more) at (enter_inputs (add_last done p) more)
 
   module _ (inputs : List Port) where
-    pub enter-outputs : (done more : List Port) → enter_all (after E (made k d inputs done [] [] [] [])) (map (λ p. part (output p)) more) ≡ after E (made k d inputs (done ++ more) [] [] [] [])
+    pub enter_outputs : (done more : List Port) → enter_all (after E (made k d inputs done [] [] [] [])) (map (λ p. part (output p)) more) ≡ after E (made k d inputs (done ++ more) [] [] [] [])
     unfolding enter_all
-    enter-outputs done [] = rw (append-nil done)
-    enter-outputs done (p ∷ more) = rw (add-last-append done p more) at (enter-outputs (add_last done p) more)
+    enter_outputs done [] = rw (append-nil done)
+    enter_outputs done (p ∷ more) = rw (add_last_append done p more) at (enter_outputs (add_last done p) more)
 
     module _ (outputs : List Port) where
-      pub enter-instances : (done more : List ℕ)
+      pub enter_instances : (done more : List ℕ)
           → enter_all (after E (made k d inputs outputs done [] [] [])) (map (λ n. part (instance n)) more) ≡ after E (made k d inputs outputs (done ++ more) [] [] [])
       unfolding enter_all
-      enter-instances done [] = rw (append-nil done)
-      enter-instances done (n ∷ more) = rw (add-last-append done n more) at (enter-instances (add_last done n) more)
+      enter_instances done [] = rw (append-nil done)
+      enter_instances done (n ∷ more) = rw (add_last_append done n more) at (enter_instances (add_last done n) more)
 
       module _ (instances : List ℕ) where
-        abbrev pub with-calls : List Call → List (List Source) → List Source → Component
-        with-calls calls lists connections = made k d inputs outputs instances calls lists connections
+        abbrev pub with_calls : List Call → List (List Source) → List Source → Component
+        with_calls calls lists connections = made k d inputs outputs instances calls lists connections
 
-        pub enter-arguments : (calls : List Call) (lists : List (List Source)) (done more : List Source)
-            → enter_all (after E (with-calls calls (add_last lists done) [])) (map (λ s. part (argument s)) more) ≡ after E (with-calls calls (add_last lists (done ++ more)) [])
+        pub enter_arguments : (calls : List Call) (lists : List (List Source)) (done more : List Source)
+            → enter_all (after E (with_calls calls (add_last lists done) [])) (map (λ s. part (argument s)) more) ≡ after E (with_calls calls (add_last lists (done ++ more)) [])
         unfolding enter_all
-        enter-arguments calls lists done [] = rw (append-nil done)
-        enter-arguments calls lists done (s ∷ more) =
-            ap (λ l. enter_all (after E (with-calls calls l [])) (map (λ t. part (argument t)) more)) (change-last-add-last (λ a. add_last a s) lists done)
-            ∙ (rw (add-last-append done s more) at (enter-arguments calls lists (add_last done s) more))
+        enter_arguments calls lists done [] = rw (append-nil done)
+        enter_arguments calls lists done (s ∷ more) =
+            ap (λ l. enter_all (after E (with_calls calls l [])) (map (λ t. part (argument t)) more)) (change_last_add_last (λ a. add_last a s) lists done)
+            ∙ (rw (add_last_append done s more) at (enter_arguments calls lists (add_last done s) more))
 
-        pub enter-invocations : (done more : List Call) (lists later : List (List Source)) → length later ≡ length more
-            → enter_all (after E (with-calls done lists [])) (invocations more later) ≡ after E (with-calls (done ++ more) (lists ++ later) [])
+        pub enter_invocations : (done more : List Call) (lists later : List (List Source)) → length later ≡ length more
+            → enter_all (after E (with_calls done lists [])) (invocations more later) ≡ after E (with_calls (done ++ more) (lists ++ later) [])
         unfolding enter_all invocations
-        enter-invocations done [] lists [] e = rw (append-nil done, append-nil lists)
-        enter-invocations done [] lists (a ∷ later) e = absurd (omega arith)
-        enter-invocations done (v ∷ more) lists [] e = absurd (omega arith)
-        enter-invocations done (v ∷ more) lists (a ∷ later) e =
-            enter-append _ (map (λ s. part (argument s)) a) (invocations more later)
-            ∙ ap (λ f. enter_all f (invocations more later)) (enter-arguments (add_last done v) lists [] a)
-            ∙ (rw (add-last-append done v more, add-last-append lists a later) at (enter-invocations (add_last done v) more (add_last lists a) later (omega arith)))
+        enter_invocations done [] lists [] e = rw (append-nil done, append-nil lists)
+        enter_invocations done [] lists (a ∷ later) e = absurd (omega arith)
+        enter_invocations done (v ∷ more) lists [] e = absurd (omega arith)
+        enter_invocations done (v ∷ more) lists (a ∷ later) e =
+            enter_append _ (map (λ s. part (argument s)) a) (invocations more later)
+            ∙ ap (λ f. enter_all f (invocations more later)) (enter_arguments (add_last done v) lists [] a)
+            ∙ (rw (add_last_append done v more, add_last_append lists a later) at (enter_invocations (add_last done v) more (add_last lists a) later (omega arith)))
 
-        pub enter-connections : (calls : List Call) (lists : List (List Source)) (done more : List Source)
-            → enter_all (after E (with-calls calls lists done)) (map (λ s. part (connection s)) more) ≡ after E (with-calls calls lists (done ++ more))
+        pub enter_connections : (calls : List Call) (lists : List (List Source)) (done more : List Source)
+            → enter_all (after E (with_calls calls lists done)) (map (λ s. part (connection s)) more) ≡ after E (with_calls calls lists (done ++ more))
         unfolding enter_all
-        enter-connections calls lists done [] = rw (append-nil done)
-        enter-connections calls lists done (s ∷ more) = rw (add-last-append done s more) at (enter-connections calls lists (add_last done s) more)
+        enter_connections calls lists done [] = rw (append-nil done)
+        enter_connections calls lists done (s ∷ more) = rw (add_last_append done s more) at (enter_connections calls lists (add_last done s) more)
 
 -- One group after another.
-enter-both : (e f g : Entered) (xs ys : List Record) → enter_all e xs ≡ f → enter_all f ys ≡ g → enter_all e (xs ++ ys) ≡ g
-enter-both e f g xs ys h k = enter-append e xs ys ∙ ap (λ x. enter_all x ys) h ∙ k
+enter_both : (e f g : Entered) (xs ys : List Record) → enter_all e xs ≡ f → enter_all f ys ≡ g → enter_all e (xs ++ ys) ≡ g
+enter_both e f g xs ys h k = enter_append e xs ys ∙ ap (λ x. enter_all x ys) h ∙ k
 
-pub enter-parts : (E : List Component) (C : Component) → Even E C → enter_all (after E (new C.class C.delay)) (parts C) ≡ after E C
+pub enter_parts : (E : List Component) (C : Component) → Even E C → enter_all (after E (new C.class C.delay)) (parts C) ≡ after E C
 unfolding parts
-enter-parts E C e =
-    enter-both _ _ _ _ _ (enter-inputs E k d [] C.inputs)
-    (enter-both _ _ _ _ _ (enter-outputs E k d C.inputs [] C.outputs)
-    (enter-both _ _ _ _ _ (enter-instances E k d C.inputs C.outputs [] C.instances)
-    (enter-both _ _ _ _ _ (enter-invocations E k d C.inputs C.outputs C.instances [] C.calls [] C.arguments e)
-    (enter-connections E k d C.inputs C.outputs C.instances C.calls C.arguments [] C.connections))))
+enter_parts E C e =
+    enter_both _ _ _ _ _ (enter_inputs E k d [] C.inputs)
+    (enter_both _ _ _ _ _ (enter_outputs E k d C.inputs [] C.outputs)
+    (enter_both _ _ _ _ _ (enter_instances E k d C.inputs C.outputs [] C.instances)
+    (enter_both _ _ _ _ _ (enter_invocations E k d C.inputs C.outputs C.instances [] C.calls [] C.arguments e)
+    (enter_connections E k d C.inputs C.outputs C.instances C.calls C.arguments [] C.connections))))
   where
     k : Class
     k = C.class
@@ -101,20 +101,20 @@ chain P E [] h = tt
 chain P E (C ∷ D) h =
     let z = length-append E (C ∷ D) in (
       rw (get_or-append_seam E C D no_component, take_at E (C ∷ D) (length E) refl) at (h (length E) (omega arith)),
-      chain P (add_last E C) D (rw (add-last-append E C D) h),
+      chain P (add_last E C) D (rw (add_last_append E C D) h),
     )
 
-enter-later : (E : List Component) (C : Component) (D : Design) → Chain Even (add_last E C) D → said (enter_all (after E C) (records D)) ≡ add_last E C ++ D
+enter_later : (E : List Component) (C : Component) (D : Design) → Chain Even (add_last E C) D → said (enter_all (after E C) (records D)) ≡ add_last E C ++ D
 unfolding Chain records enter_all
-enter-later E C [] c = sym (append-nil (add_last E C))
-enter-later E C (B ∷ D) c =
-    ap said (enter-both _ _ _ (parts B) (records D) (enter-parts (add_last E C) B c.0) refl)
-    ∙ enter-later (add_last E C) B D c.1 ∙ add-last-append (add_last E C) B D
+enter_later E C [] c = sym (append-nil (add_last E C))
+enter_later E C (B ∷ D) c =
+    ap said (enter_both _ _ _ (parts B) (records D) (enter_parts (add_last E C) B c.0) refl)
+    ∙ enter_later (add_last E C) B D c.1 ∙ add_last_append (add_last E C) B D
 
-pub design-records : (D : Design) → All D Even → design (records D) ≡ D
+pub design_records : (D : Design) → All D Even → design (records D) ≡ D
 unfolding design Chain records enter_all add_last
-design-records D h = go D (chain Even [] D h)
+design_records D h = go D (chain Even [] D h)
   where
     go : (D : Design) → Chain Even [] D → said (enter_all nothing (records D)) ≡ D
     go [] c = refl
-    go (C ∷ D) c = ap said (enter-both _ _ _ (parts C) (records D) (enter-parts [] C c.0) refl) ∙ enter-later [] C D c.1
+    go (C ∷ D) c = ap said (enter_both _ _ _ (parts C) (records D) (enter_parts [] C c.0) refl) ∙ enter_later [] C D c.1

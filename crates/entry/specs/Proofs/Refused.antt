@@ -16,62 +16,62 @@ use Rattle.entry.specs.Told.{told}
 use Rattle.entry.specs.Answers.{Broken, FirstBroken, before, Breaks, BreaksFirst, Refuses}
 use Rattle.entry.specs.Verdict.{judge, verdict}
 use Rattle.entry.specs.Proofs.Good.{Keeps}
-use Rattle.entry.specs.Proofs.First.{kept-unbroken, first-broken, one-first}
+use Rattle.entry.specs.Proofs.First.{kept_unbroken, first_broken, one_first}
 use Rattle.entry.specs.Proofs.Unbroken.{Unbroken, Stops}
 use Rattle.entry.specs.Proofs.Judged.{Judged, goes, stops, judged}
 
 -- `Breaks` and `Refuses` of Answers, after what has been entered.
 module _ (e : Entered) (rs : List Record) where
-  abbrev Breaks-after : (p n : ℕ) → Type 0
-  Breaks-after p n = ((p < length rs) × Broken (asks (enter_all e (take p rs)) (get_or rs p wrong)) n) ⊎ ((p ≡ length rs) × Broken (ending (enter_all e (take p rs))) n)
+  abbrev BreaksAfter : (p n : ℕ) → Type 0
+  BreaksAfter p n = ((p < length rs) × Broken (asks (enter_all e (take p rs)) (get_or rs p wrong)) n) ⊎ ((p ≡ length rs) × Broken (ending (enter_all e (take p rs))) n)
 
-  abbrev First-after : (p n : ℕ) → Type 0
-  First-after p n = ((p < length rs) × FirstBroken (asks (enter_all e (take p rs)) (get_or rs p wrong)) n) ⊎ ((p ≡ length rs) × FirstBroken (ending (enter_all e (take p rs))) n)
+  abbrev FirstAfter : (p n : ℕ) → Type 0
+  FirstAfter p n = ((p < length rs) × FirstBroken (asks (enter_all e (take p rs)) (get_or rs p wrong)) n) ⊎ ((p ≡ length rs) × FirstBroken (ending (enter_all e (take p rs))) n)
 
-  record Refuses-after (n p : ℕ) : Type 0 where
-    pub breaks : First-after p n
-    pub earlier : (q : ℕ) → q < p → (m : ℕ) → ¬ (Breaks-after q m)
+  record RefusesAfter (n p : ℕ) : Type 0 where
+    pub breaks : FirstAfter p n
+    pub earlier : (q : ℕ) → q < p → (m : ℕ) → ¬ (BreaksAfter q m)
 
-breaks-end : (e : Entered) (p n : ℕ) → Breaks-after e [] p n → Broken (ending e) n
+breaks_end : (e : Entered) (p n : ℕ) → BreaksAfter e [] p n → Broken (ending e) n
 unfolding enter_all
-breaks-end e zero n b = ⊎_elim (λ x. absurd (omega arith)) (λ x. x.1) b
-breaks-end e (suc p) n b = ⊎_elim (λ x. absurd (omega arith)) (λ x. absurd (omega arith)) b
+breaks_end e zero n b = ⊎_elim (λ x. absurd (omega arith)) (λ x. x.1) b
+breaks_end e (suc p) n b = ⊎_elim (λ x. absurd (omega arith)) (λ x. absurd (omega arith)) b
 
 module _ (e : Entered) (r : Record) (rs : List Record) where
-  breaks-here : (n : ℕ) → Breaks-after e (r ∷ rs) 0 n → Broken (asks e r) n
+  breaks_here : (n : ℕ) → BreaksAfter e (r ∷ rs) 0 n → Broken (asks e r) n
   unfolding enter_all
-  breaks-here n b = ⊎_elim (λ x. x.1) (λ x. absurd (omega arith)) b
+  breaks_here n b = ⊎_elim (λ x. x.1) (λ x. absurd (omega arith)) b
 
-  breaks-later : (p n : ℕ) → Breaks-after e (r ∷ rs) (suc p) n → Breaks-after (enter e r) rs p n
+  breaks_later : (p n : ℕ) → BreaksAfter e (r ∷ rs) (suc p) n → BreaksAfter (enter e r) rs p n
   unfolding enter_all
-  breaks-later p n b = ⊎_elim (λ x. inl (omega arith, x.1)) (λ x. inr (omega arith, x.1)) b
+  breaks_later p n b = ⊎_elim (λ x. inl (omega arith, x.1)) (λ x. inr (omega arith, x.1)) b
 
-  breaks-shift : (p n : ℕ) → First-after (enter e r) rs p n → First-after e (r ∷ rs) (suc p) n
+  breaks_shift : (p n : ℕ) → FirstAfter (enter e r) rs p n → FirstAfter e (r ∷ rs) (suc p) n
   unfolding enter_all
-  breaks-shift p n b = ⊎_elim (λ x. inl (omega arith, x.1)) (λ x. inr (omega arith, x.1)) b
+  breaks_shift p n b = ⊎_elim (λ x. inl (omega arith, x.1)) (λ x. inr (omega arith, x.1)) b
 
-unbroken-nowhere : (e : Entered) (rs : List Record) → Unbroken e rs → (p n : ℕ) → ¬ (Breaks-after e rs p n)
+unbroken_nowhere : (e : Entered) (rs : List Record) → Unbroken e rs → (p n : ℕ) → ¬ (BreaksAfter e rs p n)
 unfolding Unbroken
-unbroken-nowhere e [] u p n b = kept-unbroken (ending e) u n (breaks-end e p n b)
-unbroken-nowhere e (r ∷ rs) u zero n b = kept-unbroken (asks e r) u.0 n (breaks-here e r rs n b)
-unbroken-nowhere e (r ∷ rs) u (suc p) n b = unbroken-nowhere (enter e r) rs u.1 p n (breaks-later e r rs p n b)
+unbroken_nowhere e [] u p n b = kept_unbroken (ending e) u n (breaks_end e p n b)
+unbroken_nowhere e (r ∷ rs) u zero n b = kept_unbroken (asks e r) u.0 n (breaks_here e r rs n b)
+unbroken_nowhere e (r ∷ rs) u (suc p) n b = unbroken_nowhere (enter e r) rs u.1 p n (breaks_later e r rs p n b)
 
-refusal-later : (e : Entered) (r : Record) (rs : List Record) (n p : ℕ) → Keeps (asks e r) → Refuses-after (enter e r) rs n p → Refuses-after e (r ∷ rs) n (suc p)
-refusal-later e r rs n p k h =
-    record { breaks = breaks-shift e r rs p n h.breaks; earlier = earlier }
+refusal_later : (e : Entered) (r : Record) (rs : List Record) (n p : ℕ) → Keeps (asks e r) → RefusesAfter (enter e r) rs n p → RefusesAfter e (r ∷ rs) n (suc p)
+refusal_later e r rs n p k h =
+    record { breaks = breaks_shift e r rs p n h.breaks; earlier = earlier }
   where
-    earlier : (q : ℕ) → q < suc p → (m : ℕ) → ¬ (Breaks-after e (r ∷ rs) q m)
-    earlier zero l m b = kept-unbroken (asks e r) k m (breaks-here e r rs m b)
-    earlier (suc q) l m b = h.earlier q (omega arith) m (breaks-later e r rs q m b)
+    earlier : (q : ℕ) → q < suc p → (m : ℕ) → ¬ (BreaksAfter e (r ∷ rs) q m)
+    earlier zero l m b = kept_unbroken (asks e r) k m (breaks_here e r rs m b)
+    earlier (suc q) l m b = h.earlier q (omega arith) m (breaks_later e r rs q m b)
 
-stops-refusal : (e : Entered) (rs : List Record) (n p : ℕ) → Stops e rs n p → Refuses-after e rs n p
+stops_refusal : (e : Entered) (rs : List Record) (n p : ℕ) → Stops e rs n p → RefusesAfter e rs n p
 unfolding Stops enter_all
-stops-refusal e [] n zero s =
+stops_refusal e [] n zero s =
     record { breaks = inr (refl, s); earlier = λ q l. absurd (omega arith) }
-stops-refusal e [] n (suc p) s = absurd s
-stops-refusal e (r ∷ rs) n zero s =
+stops_refusal e [] n (suc p) s = absurd s
+stops_refusal e (r ∷ rs) n zero s =
     record { breaks = inl (omega arith, s); earlier = λ q l. absurd (omega arith) }
-stops-refusal e (r ∷ rs) n (suc p) s = refusal-later e r rs n p s.0 (stops-refusal (enter e r) rs n p s.1)
+stops_refusal e (r ∷ rs) n (suc p) s = refusal_later e r rs n p s.0 (stops_refusal (enter e r) rs n p s.1)
 
 module _ (rs : List Record) where
   -- What is told of the rule n that record p breaks.
@@ -79,33 +79,33 @@ module _ (rs : List Record) where
   tells p n = told (before rs p) (get_or rs p wrong) p n
 
   pub broken : (p n : ℕ) → BreaksFirst rs p n → Breaks rs p n
-  broken p n b = ⊎_elim (λ x. inl (x.0, first-broken _ n x.1)) (λ x. inr (x.0, first-broken _ n x.1)) b
+  broken p n b = ⊎_elim (λ x. inl (x.0, first_broken _ n x.1)) (λ x. inr (x.0, first_broken _ n x.1)) b
 
   stops_here : (n p : ℕ) → Stops nothing rs n p → Refuses rs (tells p n)
-  stops_here n p s = let h = stops-refusal nothing rs n p s in record { position = p; number = n; breaks = h.breaks; earlier = h.earlier; tells = refl }
+  stops_here n p s = let h = stops_refusal nothing rs n p s in record { position = p; number = n; breaks = h.breaks; earlier = h.earlier; tells = refl }
 
-  one-breaks : (p n m : ℕ) → BreaksFirst rs p n → BreaksFirst rs p m → n ≡ m
-  one-breaks p n m (inl x) (inl y) = one-first _ n m x.1 y.1
-  one-breaks p n m (inl x) (inr y) = let a = x.0 in let b = y.0 in absurd (omega arith)
-  one-breaks p n m (inr x) (inl y) = let a = x.0 in let b = y.0 in absurd (omega arith)
-  one-breaks p n m (inr x) (inr y) = one-first _ n m x.1 y.1
+  one_breaks : (p n m : ℕ) → BreaksFirst rs p n → BreaksFirst rs p m → n ≡ m
+  one_breaks p n m (inl x) (inl y) = one_first _ n m x.1 y.1
+  one_breaks p n m (inl x) (inr y) = let a = x.0 in let b = y.0 in absurd (omega arith)
+  one_breaks p n m (inr x) (inl y) = let a = x.0 in let b = y.0 in absurd (omega arith)
+  one_breaks p n m (inr x) (inr y) = one_first _ n m x.1 y.1
 
   -- The first record and the first rule determine what is told.
   one_told : (r q : Refusal) → Refuses rs r → Refuses rs q → r ≡ q
   one_told r q h g = h.tells ∙ ap (λ (p : ℕ). tells p h.number) same ∙ ap (tells g.position) numbers ∙ sym g.tells
     where
-      not-before : {r q : Refusal} → (h : Refuses rs r) → (g : Refuses rs q) → ¬ (h.position < g.position)
-      not-before h g l = g.earlier h.position l h.number (broken h.position h.number h.breaks)
+      not_before : {r q : Refusal} → (h : Refuses rs r) → (g : Refuses rs q) → ¬ (h.position < g.position)
+      not_before h g l = g.earlier h.position l h.number (broken h.position h.number h.breaks)
 
       same : h.position ≡ g.position
-      same = let a = not-before h g in let b = not-before g h in omega arith
+      same = let a = not_before h g in let b = not_before g h in omega arith
 
       numbers : h.number ≡ g.number
-      numbers = one-breaks g.position h.number g.number (rw (← same) h.breaks) g.breaks
+      numbers = one_breaks g.position h.number g.number (rw (← same) h.breaks) g.breaks
 
-  pub refusal-exactly : (r : Refusal) → (verdict rs ≡ refused r) ↔ Refuses rs r
+  pub refusal_exactly : (r : Refusal) → (verdict rs ≡ refused r) ↔ Refuses rs r
   unfolding verdict
-  refusal-exactly r = (λ a. to (judged nothing 0 rs) a, from (judged nothing 0 rs))
+  refusal_exactly r = (λ a. to (judged nothing 0 rs) a, from (judged nothing 0 rs))
     where
       start : (n q : ℕ) → judge nothing 0 rs ≡ refused (told (before rs q) (get_or rs q wrong) (0 + q) n) → judge nothing 0 rs ≡ refused (tells q n)
       start n q b = b ∙ ap (λ (p : ℕ). refused (told (before rs q) (get_or rs q wrong) p n)) (omega arith)
@@ -115,12 +115,12 @@ module _ (rs : List Record) where
       to (stops m q s b) a = let x : tells q m ≡ r = one_refusal (sym (start m q b) ∙ a) in rw (← x) (stops_here m q s)
 
       from : Judged nothing 0 rs → Refuses rs r → judge nothing 0 rs ≡ refused r
-      from (goes u b) h = absurd (unbroken-nowhere nothing rs u h.position h.number (broken h.position h.number h.breaks))
+      from (goes u b) h = absurd (unbroken_nowhere nothing rs u h.position h.number (broken h.position h.number h.breaks))
       from (stops m q s b) h = start m q b ∙ ap refused (one_told (tells q m) r (stops_here m q s) h)
 
-  pub accepted-unbroken : (k : Counts) → verdict rs ≡ accepted k → Unbroken nothing rs × (length (design rs) ≡ k.components) × (length rs ≡ k.records)
+  pub accepted_unbroken : (k : Counts) → verdict rs ≡ accepted k → Unbroken nothing rs × (length (design rs) ≡ k.components) × (length rs ≡ k.records)
   unfolding verdict design
-  accepted-unbroken k a = go (judged nothing 0 rs)
+  accepted_unbroken k a = go (judged nothing 0 rs)
     where
       go : Judged nothing 0 rs → Unbroken nothing rs × (length (said (enter_all nothing rs)) ≡ k.components) × (length rs ≡ k.records)
       go (goes u b) =
@@ -129,13 +129,13 @@ module _ (rs : List Record) where
           (u, ap (λ (x : Counts). x.components) c, omega arith)
       go (stops n p s b) = absurd (apart (sym a ∙ b))
 
-  pub unbroken-accepted : Unbroken nothing rs → verdict rs ≡ accepted (record { components = length (design rs); records = length rs })
+  pub unbroken_accepted : Unbroken nothing rs → verdict rs ≡ accepted (record { components = length (design rs); records = length rs })
   unfolding verdict design
-  unbroken-accepted u = go (judged nothing 0 rs)
+  unbroken_accepted u = go (judged nothing 0 rs)
     where
       go : Judged nothing 0 rs → judge nothing 0 rs ≡ accepted (record { components = length (said (enter_all nothing rs)); records = length rs })
       go (goes v b) = b ∙ ap (λ (n : ℕ). accepted (record { components = length (said (enter_all nothing rs)); records = n })) (omega arith)
-      go (stops n p s b) = absurd (unbroken-nowhere nothing rs u p n (broken p n (stops-refusal nothing rs n p s).breaks))
+      go (stops n p s b) = absurd (unbroken_nowhere nothing rs u p n (broken p n (stops_refusal nothing rs n p s).breaks))
 
-  pub accepted-nowhere : (k : Counts) → verdict rs ≡ accepted k → (p n : ℕ) → ¬ (Breaks rs p n)
-  accepted-nowhere k a = unbroken-nowhere nothing rs (accepted-unbroken k a).0
+  pub accepted_nowhere : (k : Counts) → verdict rs ≡ accepted k → (p n : ℕ) → ¬ (Breaks rs p n)
+  accepted_nowhere k a = unbroken_nowhere nothing rs (accepted_unbroken k a).0

@@ -11,41 +11,41 @@ use Rattle.entry.specs.Told.{told, told_number}
 use Rattle.entry.specs.Decide.{Decided, decide, decide_end}
 use Rattle.entry.specs.Verdict.{first, judge, verdict}
 
-abbrev All-numbered : Asks → Type 0
-All-numbered [] = Unit
-All-numbered (a ∷ rest) = Numbered a.0 × All-numbered rest
+abbrev AllNumbered : Asks → Type 0
+AllNumbered [] = Unit
+AllNumbered (a ∷ rest) = Numbered a.0 × AllNumbered rest
 
-asks-numbered : (e : Entered) (r : Record) → All-numbered (asks e r)
-asks-numbered nothing wrong = omega arith
-asks-numbered nothing (component k d) = omega arith
-asks-numbered nothing (part x) = omega arith
-asks-numbered (after E C) wrong = omega arith
-asks-numbered (after E C) (component k d) = omega arith
-asks-numbered (after E C) (part (input p)) = omega arith
-asks-numbered (after E C) (part (output p)) = omega arith
-asks-numbered (after E C) (part (instance n)) = omega arith
-asks-numbered (after E C) (part (invocation v)) = omega arith
-asks-numbered (after E C) (part (argument s)) = omega arith
-asks-numbered (after E C) (part (connection s)) = omega arith
+asks_numbered : (e : Entered) (r : Record) → AllNumbered (asks e r)
+asks_numbered nothing wrong = omega arith
+asks_numbered nothing (component k d) = omega arith
+asks_numbered nothing (part x) = omega arith
+asks_numbered (after E C) wrong = omega arith
+asks_numbered (after E C) (component k d) = omega arith
+asks_numbered (after E C) (part (input p)) = omega arith
+asks_numbered (after E C) (part (output p)) = omega arith
+asks_numbered (after E C) (part (instance n)) = omega arith
+asks_numbered (after E C) (part (invocation v)) = omega arith
+asks_numbered (after E C) (part (argument s)) = omega arith
+asks_numbered (after E C) (part (connection s)) = omega arith
 
-ending-numbered : (e : Entered) → All-numbered (ending e)
-ending-numbered nothing = omega arith
-ending-numbered (after E C) = omega arith
+ending_numbered : (e : Entered) → AllNumbered (ending e)
+ending_numbered nothing = omega arith
+ending_numbered (after E C) = omega arith
 
-first-sure : (l : Asks) → All-numbered l → (d : Decided l) (e : Entered) (x : Record) (p : ℕ) (k : Answer Counts) → Sure k → Sure (first l d (told e x p) k)
+first_sure : (l : Asks) → AllNumbered l → (d : Decided l) (e : Entered) (x : Record) (p : ℕ) (k : Answer Counts) → Sure k → Sure (first l d (told e x p) k)
 unfolding first
-first-sure [] n d e x p k s = s
-first-sure (a ∷ l) n d e x p k s = go d.0 (first-sure l n.1 d.1 e x p k s)
+first_sure [] n d e x p k s = s
+first_sure (a ∷ l) n d e x p k s = go d.0 (first_sure l n.1 d.1 e x p k s)
   where
     go : (y : Dec a.1) → Sure (first l d.1 (told e x p) k) → Sure (first (a ∷ l) (y, d.1) (told e x p) k)
     go (yes h) more = more
     go (no h) more = let m = n.0 in let t = told_number e x p a.0 in omega arith
 
-judge-sure : (e : Entered) (p : ℕ) (rs : List Record) → Sure (judge e p rs)
+judge_sure : (e : Entered) (p : ℕ) (rs : List Record) → Sure (judge e p rs)
 unfolding judge
-judge-sure e p [] = first-sure (ending e) (ending-numbered e) (decide_end e) e wrong p _ tt
-judge-sure e p (r ∷ rs) = first-sure (asks e r) (asks-numbered e r) (decide e r) e r p _ (judge-sure (enter e r) (suc p) rs)
+judge_sure e p [] = first_sure (ending e) (ending_numbered e) (decide_end e) e wrong p _ tt
+judge_sure e p (r ∷ rs) = first_sure (asks e r) (asks_numbered e r) (decide e r) e r p _ (judge_sure (enter e r) (suc p) rs)
 
-pub verdict-sure : (rs : List Record) → Sure (verdict rs)
+pub verdict_sure : (rs : List Record) → Sure (verdict rs)
 unfolding verdict
-verdict-sure rs = judge-sure nothing 0 rs
+verdict_sure rs = judge_sure nothing 0 rs

@@ -2,7 +2,7 @@
 -- Assumes nothing.
 use Prim.Native.Nat.{◌-◌}
 use mathlib.Core.Path.{◌∙◌}
-use borrow.Author.Tests.{not-true, not-false}
+use borrow.Author.Tests.{not_true, not-false}
 use borrow.Author.Rules.{rules}
 use Rattle.reader.proofs.argument_refusal.Statement.{statement}
 use Rattle.reader.proofs.argument_refusal.Tie as tie
@@ -11,7 +11,7 @@ may-argument-requires : tie.Need-may-argument-requires
 may-argument-requires c κs = search rules
 
 returns : tie.Need-returns
-returns c = rw (← c.before.may-argument.ensures, not-true c.before.may-argument.result c.if1.true)
+returns c = rw (← c.before.may-argument.ensures, not_true c.before.may-argument.result c.if1.true)
 
 port-in-requires : tie.Need-port-in-requires
 port-in-requires c κs = search rules

@@ -7,8 +7,8 @@ use Rattle.reader.proofs.component_refusal.Tie as tie
 may-end-requires : tie.Need-may-end-requires
 may-end-requires c κs = search rules
 
-add-first : tie.Need-overflow-add-first
-add-first c = search rules
+add_first : tie.Need-overflow-add-first
+add_first c = search rules
 
 first-requires : tie.Need-first-requires
 first-requires c κs = search rules
@@ -21,4 +21,4 @@ returns c = cc
 
 pub component-refusal-spec : {M : Type 1} → statement M
 component-refusal-spec =
-    tie.close (tie.spec may-end-requires add-first first-requires first-requires-2 returns)
+    tie.close (tie.spec may-end-requires add_first first-requires first-requires-2 returns)

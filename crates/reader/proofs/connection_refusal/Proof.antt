@@ -2,7 +2,7 @@
 -- Assumes nothing.
 use Prim.Native.Nat.{◌-◌}
 use mathlib.Core.Path.{◌∙◌}
-use borrow.Author.Tests.{not-true, not-false}
+use borrow.Author.Tests.{not_true, not-false}
 use borrow.Author.Rules.{rules}
 use Rattle.reader.proofs.connection_refusal.Statement.{statement}
 use Rattle.reader.proofs.connection_refusal.Tie as tie
@@ -11,7 +11,7 @@ may-connection-requires : tie.Need-may-connection-requires
 may-connection-requires c κs = search rules
 
 returns : tie.Need-returns
-returns c = rw (← c.before.may-connection.ensures, not-true c.before.may-connection.result c.if1.true)
+returns c = rw (← c.before.may-connection.ensures, not_true c.before.may-connection.result c.if1.true)
 
 add-port-in : tie.Need-overflow-add-port-in
 add-port-in c = search rules

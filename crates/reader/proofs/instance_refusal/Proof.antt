@@ -2,7 +2,7 @@
 -- Assumes nothing.
 use Prim.Native.Nat.{◌-◌}
 use native.Mathlib.Omega.{arith}
-use borrow.Author.Tests.{not-true, not-false, lt-ltb, le-ltb}
+use borrow.Author.Tests.{not_true, not-false, lt-ltb, le-ltb}
 use borrow.Author.Rules.{rules}
 use Rattle.reader.proofs.instance_refusal.Statement.{statement}
 use Rattle.reader.proofs.instance_refusal.Tie as tie
@@ -11,13 +11,13 @@ may-instance-requires : tie.Need-may-instance-requires
 may-instance-requires c κs = search rules
 
 returns : tie.Need-returns
-returns c = rw (← c.before.may-instance.ensures, not-true c.before.may-instance.result c.if1.true)
+returns c = rw (← c.before.may-instance.ensures, not_true c.before.may-instance.result c.if1.true)
 
 room-for-instance-requires : tie.Need-room-for-instance-requires
 room-for-instance-requires c κs = search rules
 
 returns-2 : tie.Need-returns-2
-returns-2 c = rw (← c.before.before.before.may-instance.ensures, not-false c.before.before.before.may-instance.result c.before.before.if1.false, ← c.before.room-for-instance.ensures, not-true c.before.room-for-instance.result c.if2.true)
+returns-2 c = rw (← c.before.before.before.may-instance.ensures, not-false c.before.before.before.may-instance.result c.before.before.if1.false, ← c.before.room-for-instance.ensures, not_true c.before.room-for-instance.result c.if2.true)
 
 size-requires : tie.Need-size-requires
 size-requires c κs = search rules

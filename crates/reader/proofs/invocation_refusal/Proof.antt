@@ -2,7 +2,7 @@
 -- Assumes nothing.
 use Prim.Native.Nat.{◌-◌}
 use mathlib.Core.Path.{◌∙◌}
-use borrow.Author.Tests.{not-true, not-false, lt-ltb, le-ltb}
+use borrow.Author.Tests.{not_true, not-false, lt-ltb, le-ltb}
 use borrow.Author.Rules.{rules}
 use Rattle.reader.proofs.invocation_refusal.Statement.{statement}
 use Rattle.reader.proofs.invocation_refusal.Tie as tie
@@ -11,7 +11,7 @@ may-invocation-requires : tie.Need-may-invocation-requires
 may-invocation-requires c κs = search rules
 
 returns : tie.Need-returns
-returns c = rw (← c.before.may-invocation.ensures, not-true c.before.may-invocation.result c.if1.true)
+returns c = rw (← c.before.may-invocation.ensures, not_true c.before.may-invocation.result c.if1.true)
 
 returns-2 : tie.Need-returns-2
 returns-2 c = rw (← c.before.before.before.may-invocation.ensures, not-false c.before.before.before.may-invocation.result c.before.before.if1.false, le-ltb _ _ c.if2.true)

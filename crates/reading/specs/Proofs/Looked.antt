@@ -9,17 +9,17 @@ use Rattle.entry.specs.Lists.{add_last}
 use Rattle.entry.specs.Records.{Record, records}
 use Rattle.entry.specs.Numbers.{component_number, input_number, output_number}
 use Rattle.entry.specs.Main.{each_stands}
-use Rattle.entry.specs.Laws.{length-add-last, at_old, at_new}
+use Rattle.entry.specs.Laws.{length_add_last, at_old, at_new}
 use Rattle.reading.specs.Reads.{Looks}
 
 -- The component number in a design with one component more.
-pub number-old : (E : List Component) (C : Component) (c : ℕ) → c < length E → component_number (add_last E C) c ≡ component_number E c
+pub number_old : (E : List Component) (C : Component) (c : ℕ) → c < length E → component_number (add_last E C) c ≡ component_number E c
 unfolding component_number add_last
-number-old E C c l = rw (take-append-le c E (C ∷ []) (omega arith))
+number_old E C c l = rw (take-append-le c E (C ∷ []) (omega arith))
 
-pub number-new : (E : List Component) (C : Component) → component_number (add_last E C) (length E) ≡ length (records E)
+pub number_new : (E : List Component) (C : Component) → component_number (add_last E C) (length E) ≡ length (records E)
 unfolding component_number add_last
-number-new E C = rw (take_at E (C ∷ []) (length E) refl)
+number_new E C = rw (take_at E (C ∷ []) (length E) refl)
 
 module _ (file : List Record) (look : ℕ → Port) (looks : Looks file look) (E : List Component) (C : Component) (rest : List Record) (w : file ≡ records (add_last E C) ++ rest) where
   abbrev D : Design
@@ -31,26 +31,26 @@ module _ (file : List Record) (look : ℕ → Port) (looks : Looks file look) (E
   at_output : (c o : ℕ) → c < length D → o < output_count D c → look (output_number D c o) ≡ T.output D c o
   at_output c o l k = (looks (output_number D c o) (T.output D c o)).1 (rw w ((each_stands D rest c l).output_at o k))
 
-  own-present : length E < length D
-  own-present = let z = length-add-last E C in omega arith
+  own_present : length E < length D
+  own_present = let z = length_add_last E C in omega arith
 
-  pub own-input : (i : ℕ) → i < length C.inputs → look (length (records E) + 1 + i) ≡ get_or C.inputs i no_port
+  pub own_input : (i : ℕ) → i < length C.inputs → look (length (records E) + 1 + i) ≡ get_or C.inputs i no_port
   unfolding input_number T.input input_count component
-  own-input i l = rw (number-new E C, at_new no_component E C) at (at_input (length E) i own-present (rw (at_new no_component E C) l))
+  own_input i l = rw (number_new E C, at_new no_component E C) at (at_input (length E) i own_present (rw (at_new no_component E C) l))
 
-  pub own-output : (o : ℕ) → o < length C.outputs → look (length (records E) + 1 + length C.inputs + o) ≡ get_or C.outputs o no_port
+  pub own_output : (o : ℕ) → o < length C.outputs → look (length (records E) + 1 + length C.inputs + o) ≡ get_or C.outputs o no_port
   unfolding input_number output_number T.output input_count output_count component
-  own-output o l = rw (number-new E C, at_new no_component E C) at (at_output (length E) o own-present (rw (at_new no_component E C) l))
+  own_output o l = rw (number_new E C, at_new no_component E C) at (at_output (length E) o own_present (rw (at_new no_component E C) l))
 
   module _ (c : ℕ) (l : c < length E) where
-    old-present : c < length D
-    old-present = let z = length-add-last E C in omega arith
+    old_present : c < length D
+    old_present = let z = length_add_last E C in omega arith
 
-    pub earlier-input : (i : ℕ) → i < length (get_or E c no_component).inputs → look (component_number E c + 1 + i) ≡ get_or (get_or E c no_component).inputs i no_port
+    pub earlier_input : (i : ℕ) → i < length (get_or E c no_component).inputs → look (component_number E c + 1 + i) ≡ get_or (get_or E c no_component).inputs i no_port
     unfolding input_number T.input input_count component
-    earlier-input i k = rw (number-old E C c l, at_old no_component E C c l) at (at_input c i old-present (rw (at_old no_component E C c l) k))
+    earlier_input i k = rw (number_old E C c l, at_old no_component E C c l) at (at_input c i old_present (rw (at_old no_component E C c l) k))
 
-    pub earlier-output : (o : ℕ) → o < length (get_or E c no_component).outputs
+    pub earlier_output : (o : ℕ) → o < length (get_or E c no_component).outputs
         → look (component_number E c + 1 + length (get_or E c no_component).inputs + o) ≡ get_or (get_or E c no_component).outputs o no_port
     unfolding input_number output_number T.output input_count output_count component
-    earlier-output o k = rw (number-old E C c l, at_old no_component E C c l) at (at_output c o old-present (rw (at_old no_component E C c l) k))
+    earlier_output o k = rw (number_old E C c l, at_old no_component E C c l) at (at_output c o old_present (rw (at_old no_component E C c l) k))

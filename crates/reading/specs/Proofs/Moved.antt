@@ -11,37 +11,37 @@ use Rattle.entry.specs.Records.{Part, input, output, instance, invocation, argum
 use Rattle.entry.specs.Entered.{new, add}
 use Rattle.entry.specs.Asks.{invoked, argument_count}
 use Rattle.entry.specs.Asks as A
-use Rattle.entry.specs.Laws.{length-add-last, at_old, at_new, length-change-last, at_last, at_before}
+use Rattle.entry.specs.Laws.{length_add_last, at_old, at_new, length_change_last, at_last, at_before}
 use Rattle.reading.specs.Tests.{is_built}
 use Rattle.reading.specs.Place.{Place, begun, moved}
-use Rattle.reading.specs.Proofs.Placed.{makes-due, Stands, nothing-due}
+use Rattle.reading.specs.Proofs.Placed.{makes_due, Stands, nothing_due}
 
 module _ (E : List Component) (C : Component) (s : Place) (h : Stands E C s) where
-  moved-input : (p : Port) → Stands E (add (input p) C) (moved s (input p) 0)
-  moved-input p =
+  moved_input : (p : Port) → Stands E (add (input p) C) (moved s (input p) 0)
+  moved_input p =
       let n = h.counts in
-      let z = length-add-last C.inputs p in
-      record { class = h.class; counts = omega arith; lists = h.lists; earlier = h.earlier; latest = h.latest; none-due = h.none-due; unconnected = h.unconnected }
+      let z = length_add_last C.inputs p in
+      record { class = h.class; counts = omega arith; lists = h.lists; earlier = h.earlier; latest = h.latest; none_due = h.none_due; unconnected = h.unconnected }
 
-  moved-output : (p : Port) → Stands E (add (output p) C) (moved s (output p) 0)
-  moved-output p =
+  moved_output : (p : Port) → Stands E (add (output p) C) (moved s (output p) 0)
+  moved_output p =
       let n = h.counts in
-      let z = length-add-last C.outputs p in
-      record { class = h.class; counts = omega arith; lists = h.lists; earlier = h.earlier; latest = h.latest; none-due = h.none-due; unconnected = h.unconnected }
+      let z = length_add_last C.outputs p in
+      record { class = h.class; counts = omega arith; lists = h.lists; earlier = h.earlier; latest = h.latest; none_due = h.none_due; unconnected = h.unconnected }
 
-  moved-instance : (m : ℕ) → A.Place E C (instance m) → Stands E (add (instance m) C) (moved s (instance m) 0)
-  moved-instance m place =
+  moved_instance : (m : ℕ) → A.Place E C (instance m) → Stands E (add (instance m) C) (moved s (instance m) 0)
+  moved_instance m place =
       let n = h.counts in
-      let z = length-add-last C.instances m in
+      let z = length_add_last C.instances m in
       let e : length C.calls ≡ 0 = ap length place.1 in
-      record { class = h.class; counts = omega arith; lists = h.lists; earlier = λ j l. absurd (omega arith); latest = λ j l. absurd (omega arith); none-due = h.none-due; unconnected = h.unconnected }
+      record { class = h.class; counts = omega arith; lists = h.lists; earlier = λ j l. absurd (omega arith); latest = λ j l. absurd (omega arith); none_due = h.none_due; unconnected = h.unconnected }
 
-  moved-invocation : (v : Call) → A.Place E C (invocation v) → Stands E (add (invocation v) C) (moved s (invocation v) (makes-due E C (invocation v)))
-  unfolding makes-due
-  moved-invocation v place =
+  moved_invocation : (v : Call) → A.Place E C (invocation v) → Stands E (add (invocation v) C) (moved s (invocation v) (makes_due E C (invocation v)))
+  unfolding makes_due
+  moved_invocation v place =
       let n = h.counts in
-      let z = length-add-last C.calls v in
-      let y = length-add-last C.arguments [] in
+      let z = length_add_last C.calls v in
+      let y = length_add_last C.arguments [] in
       let e = h.lists in
       record {
         class = h.class;
@@ -54,14 +54,14 @@ module _ (E : List Component) (C : Component) (s : Place) (h : Stands E C s) whe
         latest = λ j l.
             let k : j ≡ length C.calls = omega arith in
             rw (k, at_new no_call C.calls v, ← e, at_new [] C.arguments []) (omega arith);
-        none-due = λ k. absurd (omega arith);
+        none_due = λ k. absurd (omega arith);
         unconnected = λ k. place.2;
       }
 
-  moved-argument : (x : Source) → A.Place E C (argument x) → Stands E (add (argument x) C) (moved s (argument x) 0)
-  moved-argument x place =
+  moved_argument : (x : Source) → A.Place E C (argument x) → Stands E (add (argument x) C) (moved s (argument x) 0)
+  moved_argument x place =
       let n = h.counts in
-      let z = length-change-last [] longer C.arguments in
+      let z = length_change_last [] longer C.arguments in
       let e = h.lists in
       let m = place.1 in
       record {
@@ -74,38 +74,38 @@ module _ (E : List Component) (C : Component) (s : Place) (h : Stands E C s) whe
             let q : j ≡ length C.calls - 1 = omega arith in
             let u = h.latest j l in
             let y : argument_count E C j < length (invoked E C j).inputs = rw q place.2 in
-            let a = length-add-last (get_or C.arguments j []) x in
+            let a = length_add_last (get_or C.arguments j []) x in
             rw (at_last [] longer C.arguments j k) (omega arith);
-        none-due = λ k. absurd (omega arith);
+        none_due = λ k. absurd (omega arith);
         unconnected = λ k. place.3;
       }
     where
       longer : List Source → List Source
       longer a = add_last a x
 
-  moved-connection : (x : Source) → A.Place E C (connection x) → Stands E (add (connection x) C) (moved s (connection x) 0)
-  moved-connection x place =
+  moved_connection : (x : Source) → A.Place E C (connection x) → Stands E (add (connection x) C) (moved s (connection x) 0)
+  moved_connection x place =
       let n = h.counts in
-      let z = length-add-last C.connections x in
+      let z = length_add_last C.connections x in
       record {
         class = h.class;
         counts = omega arith;
         lists = h.lists;
         earlier = h.earlier;
         latest = h.latest;
-        none-due = h.none-due;
-        unconnected = λ k. let y = nothing-due E C s h place.1 in absurd (omega arith);
+        none_due = h.none_due;
+        unconnected = λ k. let y = nothing_due E C s h place.1 in absurd (omega arith);
       }
 
-  pub still-stands : (x : Part) → A.Place E C x → Stands E (add x C) (moved s x (makes-due E C x))
-  unfolding makes-due
-  still-stands (input p) place = moved-input p
-  still-stands (output p) place = moved-output p
-  still-stands (instance n) place = moved-instance n place
-  still-stands (invocation v) place = moved-invocation v place
-  still-stands (argument x) place = moved-argument x place
-  still-stands (connection x) place = moved-connection x place
+  pub still_stands : (x : Part) → A.Place E C x → Stands E (add x C) (moved s x (makes_due E C x))
+  unfolding makes_due
+  still_stands (input p) place = moved_input p
+  still_stands (output p) place = moved_output p
+  still_stands (instance n) place = moved_instance n place
+  still_stands (invocation v) place = moved_invocation v place
+  still_stands (argument x) place = moved_argument x place
+  still_stands (connection x) place = moved_connection x place
 
-pub begun-stands : (E : List Component) (k : Class) (d : ℕ) → Stands E (new k d) (begun (is_built k))
-begun-stands E k d =
-    record { class = refl; counts = omega arith; lists = refl; earlier = λ j l. absurd (omega arith); latest = λ j l. absurd (omega arith); none-due = λ e. refl; unconnected = λ l. refl }
+pub begun_stands : (E : List Component) (k : Class) (d : ℕ) → Stands E (new k d) (begun (is_built k))
+begun_stands E k d =
+    record { class = refl; counts = omega arith; lists = refl; earlier = λ j l. absurd (omega arith); latest = λ j l. absurd (omega arith); none_due = λ e. refl; unconnected = λ l. refl }

@@ -2,7 +2,7 @@
 -- Assumes nothing.
 use Prim.Native.Nat.{◌-◌}
 use native.Mathlib.Omega.{arith}
-use borrow.Author.Tests.{not-true, not-false, lt-ltb, le-ltb, le-leb, lt-leb}
+use borrow.Author.Tests.{not_true, not-false, lt-ltb, le-ltb, le-leb, lt-leb}
 use borrow.Author.Rules.{rules}
 use Rattle.rules.proofs.invocation_refusal.Statement.{statement}
 use Rattle.rules.proofs.invocation_refusal.Tie as tie
@@ -21,7 +21,7 @@ keeps-apart-requires c κs = search rules
 returns-2 : tie.Need-returns-2
 returns-2 c =
     let args = c.before.before.before.before.args in
-    rw (lt-ltb args.n args.instances (omega arith), ← c.before.keeps-apart.ensures, not-true c.before.keeps-apart.result c.if2.true)
+    rw (lt-ltb args.n args.instances (omega arith), ← c.before.keeps-apart.ensures, not_true c.before.keeps-apart.result c.if2.true)
 
 returns-3 : tie.Need-returns-3
 returns-3 c =
@@ -34,7 +34,7 @@ keeps-within-requires c κs = search rules
 returns-4 : tie.Need-returns-4
 returns-4 c =
     let args = c.before.before.before.before.before.before.before.args in
-    rw (lt-ltb args.n args.instances (omega arith), ← c.before.before.before.before.keeps-apart.ensures, not-false c.before.before.before.before.keeps-apart.result c.before.before.before.if2.false, le-leb args.d args.delay (omega arith), ← c.before.keeps-within.ensures, not-true c.before.keeps-within.result c.if4.true)
+    rw (lt-ltb args.n args.instances (omega arith), ← c.before.before.before.before.keeps-apart.ensures, not-false c.before.before.before.before.keeps-apart.result c.before.before.before.if2.false, le-leb args.d args.delay (omega arith), ← c.before.keeps-within.ensures, not_true c.before.keeps-within.result c.if4.true)
 
 returns-5 : tie.Need-returns-5
 returns-5 c =

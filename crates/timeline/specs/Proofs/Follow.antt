@@ -9,10 +9,10 @@ use Rattle.timeline.specs.Design.{output, argument, connection, gives}
 use Rattle.timeline.specs.Rules.{Holds}
 use Rattle.timeline.specs.Uses.{End, at_constant, at_input, at_output, reach, PathOf, after, From, here_constant, here_input, here_output, up, down}
 use Rattle.timeline.specs.Uses.{Promised, Found}
-use Rattle.timeline.specs.Proofs.Takes.{gives-built}
-use Rattle.timeline.specs.Proofs.Down.{Started, path-lower, invocations-down, use-there}
-use Rattle.timeline.specs.Proofs.Once.{input-once, output-once}
-use Rattle.timeline.specs.Proofs.Offered.{Offered, offered-more, argument-offered, connection-offered}
+use Rattle.timeline.specs.Proofs.Takes.{gives_built}
+use Rattle.timeline.specs.Proofs.Down.{Started, path_lower, invocations_down, use_there}
+use Rattle.timeline.specs.Proofs.Once.{input_once, output_once}
+use Rattle.timeline.specs.Proofs.Offered.{Offered, offered_more, argument_offered, connection_offered}
 use Rattle.timeline.specs.Proofs.OneEnd.{one_end}
 
 -- An end that is promised is all there is to find.
@@ -22,21 +22,21 @@ found_at D top S t p s x e f h = record { end = e; from = f; one_end = λ e' f'.
 
 module _ {D : Design} {top : ℕ} {S : ℕ → Type 0} (g : Started D top S) (t : ℕ) (s : S t) where
   -- Every input of the use p, and every source of invocations before number n in it, is found in each cycle in which it is promised.
-  abbrev Inputs-found : List ℕ → Type 0
-  Inputs-found p = (i x : ℕ) → i < input_count D (reach D top p) → Holds (input D (reach D top p) i) (t + after D top p) x → Found D top S t p (own i) x
+  abbrev InputsFound : List ℕ → Type 0
+  InputsFound p = (i x : ℕ) → i < input_count D (reach D top p) → Holds (input D (reach D top p) i) (t + after D top p) x → Found D top S t p (own i) x
 
-  abbrev Sources-found : List ℕ → ℕ → Type 0
-  Sources-found p n = (r : Source) (x : ℕ) → Offered D (reach D top p) n r (t + after D top p) x → Found D top S t p r x
+  abbrev SourcesFound : List ℕ → ℕ → Type 0
+  SourcesFound p n = (r : Source) (x : ℕ) → Offered D (reach D top p) n r (t + after D top p) x → Found D top S t p r x
 
-  inputs-inside : (p : List ℕ) (j : ℕ) → PathOf D top (j ∷ p) → Sources-found p j → Inputs-found (j ∷ p)
-  inputs-inside p j w found i x l h =
-      let f = found (argument D (reach D top p) j i) x (argument-offered g.placed t p j i x w l h) in
+  inputs_inside : (p : List ℕ) (j : ℕ) → PathOf D top (j ∷ p) → SourcesFound p j → InputsFound (j ∷ p)
+  inputs_inside p j w found i x l h =
+      let f = found (argument D (reach D top p) j i) x (argument_offered g.placed t p j i x w l h) in
       found_at D top S t (j ∷ p) (own i) x f.end (up f.from) f.promised
 
   -- A leaf's output is promised by the use itself, and a built component's is found where its connection's source is.
   output_found : (p : List ℕ) (j o x : ℕ) → PathOf D top (j ∷ p) → o < output_count D (reach D top (j ∷ p))
       → Holds (gives D (reach D top p) j o) (t + after D top (j ∷ p)) x
-      → Sources-found (j ∷ p) (invocation_count D (reach D top (j ∷ p))) → Found D top S t p (output_of j o) x
+      → SourcesFound (j ∷ p) (invocation_count D (reach D top (j ∷ p))) → Found D top S t p (output_of j o) x
   output_found p j o x w l h found = go (class D c) refl
     where
       c : ℕ
@@ -50,37 +50,37 @@ module _ {D : Design} {top : ℕ} {S : ℕ → Type 0} (g : Started D top S) (t 
             to_leaf = e;
             there = l;
             holds = h;
-            only = λ t' q s' v u k. output-once g t t' (j ∷ p) q x s s' w v u o l h k;
+            only = λ t' q s' v u k. output_once g t t' (j ∷ p) q x s s' w v u o l h k;
           })
       go built e =
-          let k : Holds (output D c o) (t + after D top (j ∷ p)) x = rw (gives-built D (reach D top p) j o e) at h in
-          let f = found (connection D c o) x (connection-offered g.placed t (j ∷ p) o x w e l k) in
+          let k : Holds (output D c o) (t + after D top (j ∷ p)) x = rw (gives_built D (reach D top p) j o e) at h in
+          let f = found (connection D c o) x (connection_offered g.placed t (j ∷ p) o x w e l k) in
           found_at D top S t p (output_of j o) x f.end (down e f.from) f.promised
 
   -- In a component below number m + 1, where its inputs are found and so are the sources in components below m.
-  sources-inside : (m : ℕ) → ((p : List ℕ) → PathOf D top p → reach D top p < m → Inputs-found p → Sources-found p (invocation_count D (reach D top p)))
-      → (p : List ℕ) → PathOf D top p → reach D top p < suc m → Inputs-found p → (n : ℕ) → Sources-found p n
-  sources-inside m lower p w l found zero (own i) x h = found i x h.0 h.1
-  sources-inside m lower p w l found zero (output_of j o) x h = absurd (omega arith)
-  sources-inside m lower p w l found zero (constant v) x h = found_at D top S t p (constant v) x (at_constant v) here_constant tt
-  sources-inside m lower p w l found (suc n) (own i) x h = found i x h.0 h.1
-  sources-inside m lower p w l found (suc n) (constant v) x h = found_at D top S t p (constant v) x (at_constant v) here_constant tt
-  sources-inside m lower p w l found (suc n) (output_of j o) x h =
+  sources_inside : (m : ℕ) → ((p : List ℕ) → PathOf D top p → reach D top p < m → InputsFound p → SourcesFound p (invocation_count D (reach D top p)))
+      → (p : List ℕ) → PathOf D top p → reach D top p < suc m → InputsFound p → (n : ℕ) → SourcesFound p n
+  sources_inside m lower p w l found zero (own i) x h = found i x h.0 h.1
+  sources_inside m lower p w l found zero (output_of j o) x h = absurd (omega arith)
+  sources_inside m lower p w l found zero (constant v) x h = found_at D top S t p (constant v) x (at_constant v) here_constant tt
+  sources_inside m lower p w l found (suc n) (own i) x h = found i x h.0 h.1
+  sources_inside m lower p w l found (suc n) (constant v) x h = found_at D top S t p (constant v) x (at_constant v) here_constant tt
+  sources_inside m lower p w l found (suc n) (output_of j o) x h =
       let v : PathOf D top (j ∷ p) = (h.1, w) in
-      let b = path-lower (invocations-down g.placed) j p v in
-      let earlier : Sources-found p j = λ r y k. sources-inside m lower p w l found n r y (offered-more D (reach D top p) j n r _ y (omega arith) k) in
-      output_found p j o x v h.2 (omega arith) (lower (j ∷ p) v (omega arith) (inputs-inside p j v earlier))
+      let b = path_lower (invocations_down g.placed) j p v in
+      let earlier : SourcesFound p j = λ r y k. sources_inside m lower p w l found n r y (offered_more D (reach D top p) j n r _ y (omega arith) k) in
+      output_found p j o x v h.2 (omega arith) (lower (j ∷ p) v (omega arith) (inputs_inside p j v earlier))
 
-  sources : (m : ℕ) (p : List ℕ) → PathOf D top p → reach D top p < m → Inputs-found p → (n : ℕ) → Sources-found p n
+  sources : (m : ℕ) (p : List ℕ) → PathOf D top p → reach D top p < m → InputsFound p → (n : ℕ) → SourcesFound p n
   sources zero p w l found n = absurd (omega arith)
-  sources (suc m) p w l found n = sources-inside m (λ q v k f. sources m q v k f (invocation_count D (reach D top q))) p w l found n
+  sources (suc m) p w l found n = sources_inside m (λ q v k f. sources m q v k f (invocation_count D (reach D top q))) p w l found n
 
-  pub inputs-found : (p : List ℕ) → PathOf D top p → Inputs-found p
-  inputs-found [] w i x l h =
+  pub inputs_found : (p : List ℕ) → PathOf D top p → InputsFound p
+  inputs_found [] w i x l h =
       found_at D top S t [] (own i) x (at_input i) here_input
-      (record { there = l; holds = omega arith; only = λ t' s' k. (input-once g t t' [] [] x s s' w w refl i l h (omega arith)).0 })
-  inputs-found (j ∷ p) w i x l h = inputs-inside p j w (sources (length D) p w.1 (use-there g.placed p w.1) (inputs-found p w.1) j) i x l h
+      (record { there = l; holds = omega arith; only = λ t' s' k. (input_once g t t' [] [] x s s' w w refl i l h (omega arith)).0 })
+  inputs_found (j ∷ p) w i x l h = inputs_inside p j w (sources (length D) p w.1 (use_there g.placed p w.1) (inputs_found p w.1) j) i x l h
 
   -- Everything that is offered is found.
-  pub offered-found : (p : List ℕ) → PathOf D top p → Sources-found p (invocation_count D (reach D top p))
-  offered-found p w = sources (length D) p w (use-there g.placed p w) (inputs-found p w) (invocation_count D (reach D top p))
+  pub offered_found : (p : List ℕ) → PathOf D top p → SourcesFound p (invocation_count D (reach D top p))
+  offered_found p w = sources (length D) p w (use_there g.placed p w) (inputs_found p w) (invocation_count D (reach D top p))

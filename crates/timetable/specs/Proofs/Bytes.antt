@@ -33,40 +33,40 @@ rows_back (r ∷ l) more =
     let e = append_assoc (row_bytes r) (rows_bytes l) more in
     rw (e, row_back r (rows_bytes l ++ more), rest_back r (rows_bytes l ++ more), rows_back l more)
 
-pub length-row : (r : Row) → length (row_bytes r) ≡ 16
+pub length_row : (r : Row) → length (row_bytes r) ≡ 16
 unfolding row_bytes number_bytes numbers
-length-row (register d n) = refl
-length-row (go j n k) = refl
-length-row (guard j i f l r) = refl
-length-row (out o r) = refl
+length_row (register d n) = refl
+length_row (go j n k) = refl
+length_row (guard j i f l r) = refl
+length_row (out o r) = refl
 
 pub length_bytes : (l : List Row) → length (rows_bytes l) ≡ 16 * length l
 unfolding rows_bytes
 length_bytes [] = refl
 length_bytes (r ∷ l) =
     let a = length-append (row_bytes r) (rows_bytes l) in
-    let b = length-row r in
+    let b = length_row r in
     let h = length_bytes l in
     omega arith
 
-pub bytes-append : (l m : List Row) → rows_bytes (l ++ m) ≡ rows_bytes l ++ rows_bytes m
+pub bytes_append : (l m : List Row) → rows_bytes (l ++ m) ≡ rows_bytes l ++ rows_bytes m
 unfolding rows_bytes
-bytes-append [] m = refl
-bytes-append (r ∷ l) m = rw (bytes-append l m, append_assoc (row_bytes r) (rows_bytes l) (rows_bytes m))
+bytes_append [] m = refl
+bytes_append (r ∷ l) m = rw (bytes_append l m, append_assoc (row_bytes r) (rows_bytes l) (rows_bytes m))
 
 -- The bytes of 16-bit numbers are bytes.
-are-bytes : (vs : List ℕ) → ((v : ℕ) → Has vs v → v < 65536) → (b : ℕ) → Has (number_bytes vs) b → b < 256
+are_bytes : (vs : List ℕ) → ((v : ℕ) → Has vs v → v < 65536) → (b : ℕ) → Has (number_bytes vs) b → b < 256
 unfolding number_bytes
-are-bytes [] h b m = absurd (Memᴰ.not-nil m)
-are-bytes (v ∷ vs) h b m =
+are_bytes [] h b m = absurd (Memᴰ.not-nil m)
+are_bytes (v ∷ vs) h b m =
     let e = div-add-mod v 256 in
     let l : v % 256 < 256 = mod-lt v (omega arith) in
     let k = h v (Memᴰ.head refl) in
-    ⊎_elim (λ q. omega arith) (λ n. ⊎_elim (λ q. omega arith) (are-bytes vs (λ w i. h w (Memᴰ.tail i)) b) (Memᴰ.cases_cons n)) (Memᴰ.cases_cons m)
+    ⊎_elim (λ q. omega arith) (λ n. ⊎_elim (λ q. omega arith) (are_bytes vs (λ w i. h w (Memᴰ.tail i)) b) (Memᴰ.cases_cons n)) (Memᴰ.cases_cons m)
 
-pub rows-are-bytes : (l : List Row) → ((r : Row) → Has l r → Fits r) → (b : ℕ) → Has (rows_bytes l) b → b < 256
+pub rows_are_bytes : (l : List Row) → ((r : Row) → Has l r → Fits r) → (b : ℕ) → Has (rows_bytes l) b → b < 256
 unfolding rows_bytes row_bytes
-rows-are-bytes [] h b m = absurd (Memᴰ.not-nil m)
-rows-are-bytes (r ∷ l) h b m =
-    ⊎_elim (are-bytes (numbers r) (h r (Memᴰ.head refl)) b) (rows-are-bytes l (λ q k. h q (Memᴰ.tail k)) b)
+rows_are_bytes [] h b m = absurd (Memᴰ.not-nil m)
+rows_are_bytes (r ∷ l) h b m =
+    ⊎_elim (are_bytes (numbers r) (h r (Memᴰ.head refl)) b) (rows_are_bytes l (λ q k. h q (Memᴰ.tail k)) b)
     (Memᴰ.append_cases (row_bytes r) m)

@@ -11,11 +11,11 @@ use Rattle.entry.specs.Main.{each_stands}
 use Rattle.timetable.specs.Rows.{rows}
 use Rattle.timetable.specs.Lowered.{Lowered, Wired}
 use Rattle.timetable.specs.Proofs.Rows.{rows_are}
-use Rattle.timetable.specs.Proofs.Right.{rows_right, drives-exactly, starts-exactly, connects-exactly}
+use Rattle.timetable.specs.Proofs.Right.{rows_right, drives_exactly, starts_exactly, connects_exactly}
 use Rattle.timetable.specs.Proofs.One.{one_driver}
 use Rattle.timetable.specs.Proofs.Sizes.{states_most, within, rows_most, rows_fit}
-use Rattle.timetable.specs.Proofs.Begun.{begins-exactly, units-spaced, one-in-unit}
-use Rattle.timetable.specs.Proofs.Carried.{carries-exactly}
+use Rattle.timetable.specs.Proofs.Begun.{begins_exactly, units_spaced, one_in_unit}
+use Rattle.timetable.specs.Proofs.Carried.{carries_exactly}
 
 module _ (D : Design) (lawful : Lawful D) (rs : List Record) (its : records D ≡ rs) where
   -- Each part stands at its number.
@@ -25,11 +25,11 @@ module _ (D : Design) (lawful : Lawful D) (rs : List Record) (its : records D �
   pub lowered : (c : ℕ) → c < length D → class D c ≡ built → (S : ℕ → Type 0) → Lowered D c rs S
   lowered c there is_built S =
       let h : Placed D c = record { lawful = lawful; there = there } in
-      let drives = drives-exactly h (rows D c) (rows_right h) S rs (stand c there) in
+      let drives = drives_exactly h (rows D c) (rows_right h) S rs (stand c there) in
       record {
         drives = drives;
-        starts = starts-exactly h (rows D c) (rows_right h) S;
-        connects = connects-exactly h (rows D c) (rows_right h) rs (stand c there) is_built;
+        starts = starts_exactly h (rows D c) (rows_right h) S;
+        connects = connects_exactly h (rows D c) (rows_right h) rs (stand c there) is_built;
         one_driver = λ apart x n i s s' r r' j j' t t' d e. one_driver (record { placed = h; starts = apart }) x n i s s' r r' j j' t t' ((drives x n i s r j t).0 d) ((drives x n i s' r' j' t').0 e);
         states_most = states_most h;
         states_within = λ r m. within h r ((rows_are D c r).0 m);
@@ -41,8 +41,8 @@ module _ (D : Design) (lawful : Lawful D) (rs : List Record) (its : records D �
   wired top there S =
       let h : Placed D top = record { lawful = lawful; there = there } in
       record {
-        begins = begins-exactly h S;
-        carries = carries-exactly h S rs stand;
-        spaced = λ apart. units-spaced (record { placed = h; starts = apart });
-        one_driver = λ apart u. one-in-unit (record { placed = h; starts = apart }) u rs stand;
+        begins = begins_exactly h S;
+        carries = carries_exactly h S rs stand;
+        spaced = λ apart. units_spaced (record { placed = h; starts = apart });
+        one_driver = λ apart u. one_in_unit (record { placed = h; starts = apart }) u rs stand;
       }

@@ -5,7 +5,7 @@ use Rattle.std.proofs.Common.{arith}
 use Rattle.timeline.specs.Design.{Design, Source, input, instance, invoked, offset}
 use Rattle.timeline.specs.Rules.{Holds}
 use Rattle.timeline.specs.Proofs.Down.{Started}
-use Rattle.timeline.specs.Proofs.Once.{input-once}
+use Rattle.timeline.specs.Proofs.Once.{input_once}
 use Rattle.timetable.specs.Table.{TableDrives}
 
 module _ {D : Design} {c : ℕ} {S : ℕ → Type 0} (g : Started D c S) where
@@ -16,6 +16,6 @@ module _ {D : Design} {c : ℕ} {S : ℕ → Type 0} (g : Started D c S) where
       let u : instance D c j ∷ [] ≡ instance D c j' ∷ [] = cc (h.instance_is, k.instance_is) in
       let a : Holds (input D (invoked D c j) i) (t + (0 + offset D c j)) x = record { from = omega (arith, h.during); upto = omega (arith, h.during) } in
       let b : Holds (input D (invoked D c j') i) (t' + (0 + offset D c j')) x = record { from = omega (arith, k.during); upto = omega (arith, k.during) } in
-      let e = input-once g t t' (j ∷ []) (j' ∷ []) x h.started k.started (h.invocation_there, tt) (k.invocation_there, tt) u i h.input_there a b in
+      let e = input_once g t t' (j ∷ []) (j' ∷ []) x h.started k.started (h.invocation_there, tt) (k.invocation_there, tt) u i h.input_there a b in
       let q : j ≡ j' = cc e.1 in
       (cc (h.source_is, k.source_is), cc (h.record_is, k.record_is), q, e.0)

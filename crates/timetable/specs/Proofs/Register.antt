@@ -10,19 +10,19 @@ use native.Mathlib.Omega.{arith}
 use Rattle.std.proofs.Math.Decide.{dec_lt}
 use Rattle.timetable.specs.Register.{Active, next, bits_in}
 
-not-true : {b : Bool} → b ≡ false → b ≡ true → ⊥
-not-true e f = let z : ◌≡◌ {A = ℕ} 0 1 = cc in omega arith
+not_true : {b : Bool} → b ≡ false → b ≡ true → ⊥
+not_true e f = let z : ◌≡◌ {A = ℕ} 0 1 = cc in omega arith
 
 empty : (n i : ℕ) → get_or (replicate n false) i false ≡ false
 empty zero i = refl
 empty (suc n) zero = refl
 empty (suc n) (suc i) = empty n i
 
-past-last : (n : ℕ) (bits : List Bool) (i : ℕ) → n ≤ i → get_or (take n bits) i false ≡ false
-past-last zero bits i l = refl
-past-last (suc n) [] i l = refl
-past-last (suc n) (b ∷ bits) zero l = absurd (omega arith)
-past-last (suc n) (b ∷ bits) (suc i) l = past-last n bits i (omega arith)
+past_last : (n : ℕ) (bits : List Bool) (i : ℕ) → n ≤ i → get_or (take n bits) i false ≡ false
+past_last zero bits i l = refl
+past_last (suc n) [] i l = refl
+past_last (suc n) (b ∷ bits) zero l = absurd (omega arith)
+past_last (suc n) (b ∷ bits) (suc i) l = past_last n bits i (omega arith)
 
 module _ (n : ℕ) (s : ℕ → Bool) where
   -- The state is active on account of some start.
@@ -31,8 +31,8 @@ module _ (n : ℕ) (s : ℕ → Bool) where
 
   no_more : (x i : ℕ) → n ≤ i → get_or (bits_in n s x) i false ≡ false
   unfolding bits_in next
-  no_more zero i l = past-last n (s 0 ∷ replicate n false) i l
-  no_more (suc x) i l = past-last n (s (suc x) ∷ bits_in n s x) i l
+  no_more zero i l = past_last n (s 0 ∷ replicate n false) i l
+  no_more (suc x) i l = past_last n (s (suc x) ∷ bits_in n s x) i l
 
   below_last : (x i : ℕ) → i < n → (get_or (bits_in n s x) i false ≡ true) ↔ On x i
   unfolding bits_in next
@@ -43,7 +43,7 @@ module _ (n : ℕ) (s : ℕ → Bool) where
       )
   below_last zero (suc i) l =
       rw (get_or-take n (s 0 ∷ replicate n false) (suc i) false l) (
-        λ h. absurd (not-true (empty n i) h),
+        λ h. absurd (not_true (empty n i) h),
         λ a. absurd (omega (arith, a.1.before)),
       )
   below_last (suc x) zero l =
@@ -58,9 +58,9 @@ module _ (n : ℕ) (s : ℕ → Bool) where
         λ a. r.1 (a.0, record { below = omega arith; started = a.1.started; before = omega (arith, a.1.before) }),
       )
 
-  pub set-exactly : (x i : ℕ) → (get_or (bits_in n s x) i false ≡ true) ↔ On x i
-  set-exactly x i = go (dec_lt i n)
+  pub set_exactly : (x i : ℕ) → (get_or (bits_in n s x) i false ≡ true) ↔ On x i
+  set_exactly x i = go (dec_lt i n)
     where
       go : Dec (i < n) → (get_or (bits_in n s x) i false ≡ true) ↔ On x i
       go (yes l) = below_last x i l
-      go (no m) = (λ h. absurd (not-true (no_more x i (omega arith)) h), λ a. absurd (m a.1.below))
+      go (no m) = (λ h. absurd (not_true (no_more x i (omega arith)) h), λ a. absurd (m a.1.below))

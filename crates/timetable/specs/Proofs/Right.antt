@@ -5,7 +5,7 @@ use Rattle.std.proofs.Math.ListN.{get_or}
 use native.Mathlib.Omega.{arith}
 use Rattle.timeline.specs.Design.{Design, Source, built, class, delay, input_count, output_count, invocation_count, input, invoked, offset, argument, connection}
 use Rattle.timeline.specs.Rules.{PortRange, Whole, Holds}
-use Rattle.timeline.specs.Proofs.Down.{Placed, use-ranges}
+use Rattle.timeline.specs.Proofs.Down.{Placed, use_ranges}
 use Rattle.entry.specs.Records
 use Rattle.entry.specs.Records.{Record, wrong, part}
 use Rattle.entry.specs.Numbers.{argument_number, connection_number, Standing}
@@ -16,7 +16,7 @@ use Rattle.timetable.specs.Rows.{Row, register, go, guard, out, first_state, las
 use Rattle.timetable.specs.Places.{RowOf}
 use Rattle.timetable.specs.Drives.{StateActive, RowsDrive, RowsStart, RowsConnect}
 use Rattle.timetable.specs.Proofs.Rows.{rows_are}
-use Rattle.timetable.specs.Proofs.States.{states-cover}
+use Rattle.timetable.specs.Proofs.States.{states_cover}
 
 -- Some guard of input i of invocation j, with record r, has state q.
 pub record Guarded (l : List Row) (j i r q : ℕ) : Type 0 where
@@ -35,17 +35,17 @@ pub record Wanted (D : Design) (c j i r q : ℕ) : Type 0 where
 
 -- A register with no state too few, the component's own go and output rows, and guards with the wanted states.
 pub record Right (D : Design) (c : ℕ) (l : List Row) : Type 0 where
-  pub delay-said : ℕ
-  pub states-said : ℕ
-  pub register-said : Has l (register delay-said states-said)
-  pub enough : states D c ≤ states-said
+  pub delay_said : ℕ
+  pub states_said : ℕ
+  pub register_said : Has l (register delay_said states_said)
+  pub enough : states D c ≤ states_said
   pub goes : (j n k : ℕ) → Has l (go j n k) ↔ RowOf D c (go j n k)
   pub guards : (j i r q : ℕ) → Guarded l j i r q ↔ Wanted D c j i r q
   pub outs : (o r : ℕ) → Has l (out o r) ↔ RowOf D c (out o r)
 
 module _ {D : Design} {c : ℕ} (h : Placed D c) where
   pub input_range : (j i : ℕ) → j < invocation_count D c → i < input_count D (invoked D c j) → PortRange (input D (invoked D c j) i)
-  input_range j i l k = (use-ranges h (j ∷ []) (l, tt)).input_range i k
+  input_range j i l k = (use_ranges h (j ∷ []) (l, tt)).input_range i k
 
   whole : Whole D c
   whole = h.lawful.whole c h.there
@@ -80,9 +80,9 @@ module _ {D : Design} {c : ℕ} (h : Placed D c) where
   unfolding register_row
   rows_right =
       record {
-        delay-said = delay D c;
-        states-said = states D c;
-        register-said = (rows_are D c (register (delay D c) (states D c))).1 refl;
+        delay_said = delay D c;
+        states_said = states D c;
+        register_said = (rows_are D c (register (delay D c) (states D c))).1 refl;
         enough = omega arith;
         goes = λ j n k. rows_are D c (go j n k);
         guards = λ j i r q. (wanted j i r q, guarded j i r q);
@@ -94,23 +94,23 @@ module _ {D : Design} {c : ℕ} (h : Placed D c) where
     active : (x q t : ℕ) → S t → t + q ≡ x → q < states D c → StateActive l S x q t
     active x q t s e b =
         record {
-          delay = right.delay-said;
-          states = right.states-said;
-          row = right.register-said;
+          delay = right.delay_said;
+          states = right.states_said;
+          row = right.register_said;
           active = record { below = omega (arith, right.enough); started = s; before = e };
         }
 
     module _ (rs : List Record) (standing : Standing D c rs) (x n i : ℕ) (s : Source) (r j t : ℕ) where
-      read-argument : j < invocation_count D c → i < input_count D (invoked D c j) → r ≡ argument_number D c j i → get_or rs r wrong ≡ part (Records.argument (argument D c j i))
-      read-argument b k e = rw e ((standing.argument_at j b i (omega (arith, whole.all_arguments j b))).is wrong)
+      read_argument : j < invocation_count D c → i < input_count D (invoked D c j) → r ≡ argument_number D c j i → get_or rs r wrong ≡ part (Records.argument (argument D c j i))
+      read_argument b k e = rw e ((standing.argument_at j b i (omega (arith, whole.all_arguments j b))).is wrong)
 
-      to-table : RowsDrive l rs S x n i s r j t → TableDrives D c S x n i s r j t
+      to_table : RowsDrive l rs S x n i s r j t → TableDrives D c S x n i s r j t
       unfolding go_row
-      to-table d =
+      to_table d =
           let w = (right.guards j i r d.state).0 (record { first = d.first; last = d.last; guard_row = d.guard_row; from = d.from; upto = d.upto }) in
           let g = (right.goes j n d.begin).0 d.go_row in
           let a = d.active.active.before in
-          let m = read-argument w.invocation_there w.input_there w.record_is in
+          let m = read_argument w.invocation_there w.input_there w.record_is in
           let q : part (Records.argument s) ≡ part (Records.argument (argument D c j i)) = cc (d.read, m) in
           record {
             started = d.active.active.started;
@@ -122,11 +122,11 @@ module _ {D : Design} {c : ℕ} (h : Placed D c) where
             record_is = w.record_is;
           }
 
-      to-rows : TableDrives D c S x n i s r j t → RowsDrive l rs S x n i s r j t
+      to_rows : TableDrives D c S x n i s r j t → RowsDrive l rs S x n i s r j t
       unfolding go_row
-      to-rows d =
-          let a = (states-cover D c).inputs j d.invocation_there i d.input_there in
-          let m = read-argument d.invocation_there d.input_there d.record_is in
+      to_rows d =
+          let a = (states_cover D c).inputs j d.invocation_there i d.input_there in
+          let m = read_argument d.invocation_there d.input_there d.record_is in
           let u = d.during in
           let g = (right.guards j i r (x - t)).1 (record {
             invocation_there = d.invocation_there;
@@ -147,12 +147,12 @@ module _ {D : Design} {c : ℕ} (h : Placed D c) where
             read = rw d.source_is m;
           }
 
-      pub drives-exactly : RowsDrive l rs S x n i s r j t ↔ TableDrives D c S x n i s r j t
-      drives-exactly = (to-table, to-rows)
+      pub drives_exactly : RowsDrive l rs S x n i s r j t ↔ TableDrives D c S x n i s r j t
+      drives_exactly = (to_table, to_rows)
 
-    pub starts-exactly : (x n j t : ℕ) → RowsStart l S x n j t ↔ TableStarts D c S x n j t
+    pub starts_exactly : (x n j t : ℕ) → RowsStart l S x n j t ↔ TableStarts D c S x n j t
     unfolding go_row
-    starts-exactly x n j t = (
+    starts_exactly x n j t = (
       λ d.
           let g = (right.goes j n d.state).0 d.go_row in
           let k : d.state ≡ offset D c j = cc g.1 in
@@ -163,7 +163,7 @@ module _ {D : Design} {c : ℕ} (h : Placed D c) where
             when = omega (arith, d.active.active.before);
           },
       λ d.
-          let a = (states-cover D c).starts j d.invocation_there in
+          let a = (states_cover D c).starts j d.invocation_there in
           record {
             state = offset D c j;
             active = active x (offset D c j) t d.started d.when (omega arith);
@@ -172,20 +172,20 @@ module _ {D : Design} {c : ℕ} (h : Placed D c) where
     )
 
   -- Of a built component every own output has a connection.
-  pub connects-exactly : (l : List Row) → Right D c l → (rs : List Record) → Standing D c rs → class D c ≡ built → (o : ℕ) (s : Source) (r : ℕ)
+  pub connects_exactly : (l : List Row) → Right D c l → (rs : List Record) → Standing D c rs → class D c ≡ built → (o : ℕ) (s : Source) (r : ℕ)
       → RowsConnect l rs o s r ↔ TableConnects D c o s r
   unfolding out_row
-  connects-exactly l right rs standing is_built o s r = (
+  connects_exactly l right rs standing is_built o s r = (
     λ d.
         let a = (right.outs o r).0 d.out_row in
         let e : r ≡ connection_number D c o = cc a.1 in
-        let m = read-connection a.0 e in
+        let m = read_connection a.0 e in
         let q : part (Records.connection s) ≡ part (Records.connection (connection D c o)) = cc (d.read, m) in
         record { output_there = a.0; source_is = cc; record_is = e },
     λ d.
-        let m = read-connection d.output_there d.record_is in
+        let m = read_connection d.output_there d.record_is in
         record { out_row = (right.outs o r).1 (d.output_there, cc d.record_is); read = rw d.source_is m },
   )
     where
-      read-connection : o < output_count D c → r ≡ connection_number D c o → get_or rs r wrong ≡ part (Records.connection (connection D c o))
-      read-connection k e = rw e ((standing.connection_at o (omega (arith, whole.all_connections is_built))).is wrong)
+      read_connection : o < output_count D c → r ≡ connection_number D c o → get_or rs r wrong ≡ part (Records.connection (connection D c o))
+      read_connection k e = rw e ((standing.connection_at o (omega (arith, whole.all_connections is_built))).is wrong)

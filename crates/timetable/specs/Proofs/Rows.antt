@@ -13,21 +13,21 @@ use Rattle.timeline.specs.Flat.{join_below}
 use Rattle.timetable.specs.Lists.{Has, list_below}
 use Rattle.timetable.specs.Rows.{Row, register, go, guard, out, register_row, go_row, guard_row, out_row, invocation_rows, rows_before, rows}
 use Rattle.timetable.specs.Places.{RowOf, go_place, guard_place, out_place, row_count, place}
-use Rattle.timetable.specs.Proofs.Lists.{in-join, to-join, in_list, to-list, length-list, has-at}
-use Rattle.timetable.specs.Proofs.Placed.{Placed, placed-append, placed-list, placed_at, placed-there}
+use Rattle.timetable.specs.Proofs.Lists.{in_join, to_join, in_list, to_list, length_list, has_at}
+use Rattle.timetable.specs.Proofs.Placed.{Placed, placed_append, placed_list, placed_at, placed_there}
 
 module _ (D : Design) (c : ℕ) where
-  of-invocation : (j : ℕ) (r : Row) → j < invocation_count D c → Has (invocation_rows D c j) r → Has (rows D c) r
+  of_invocation : (j : ℕ) (r : Row) → j < invocation_count D c → Has (invocation_rows D c j) r → Has (rows D c) r
   unfolding rows rows_before
-  of-invocation j r l m = Memᴰ.tail (Memᴰ.append_left _ (to-join (invocation_count D c) (invocation_rows D c) j l m))
+  of_invocation j r l m = Memᴰ.tail (Memᴰ.append_left _ (to_join (invocation_count D c) (invocation_rows D c) j l m))
 
-  to-rows : (r : Row) → RowOf D c r → Has (rows D c) r
+  to_rows : (r : Row) → RowOf D c r → Has (rows D c) r
   unfolding rows rows_before invocation_rows
-  to-rows (register d n) e = Memᴰ.head e
-  to-rows (go j n k) h = of-invocation j (go j n k) h.0 (Memᴰ.head h.1)
-  to-rows (guard j i f l r) h =
-      of-invocation j (guard j i f l r) h.0 (Memᴰ.tail (to-list (input_count D (invoked D c j)) (guard_row D c j) i h.1 h.2))
-  to-rows (out o r) h = Memᴰ.append_right (rows_before D c (invocation_count D c)) (to-list (output_count D c) (out_row D c) o h.0 h.1)
+  to_rows (register d n) e = Memᴰ.head e
+  to_rows (go j n k) h = of_invocation j (go j n k) h.0 (Memᴰ.head h.1)
+  to_rows (guard j i f l r) h =
+      of_invocation j (guard j i f l r) h.0 (Memᴰ.tail (to_list (input_count D (invoked D c j)) (guard_row D c j) i h.1 h.2))
+  to_rows (out o r) h = Memᴰ.append_right (rows_before D c (invocation_count D c)) (to_list (output_count D c) (out_row D c) o h.0 h.1)
 
   in_rows : (r : Row) → Has (rows D c) r → RowOf D c r
   unfolding rows rows_before invocation_rows register_row go_row guard_row out_row
@@ -35,7 +35,7 @@ module _ (D : Design) (c : ℕ) where
     where
       called : Has (join_below (invocation_count D c) (invocation_rows D c)) r → RowOf D c r
       called k =
-          let q = in-join (invocation_count D c) (invocation_rows D c) k in
+          let q = in_join (invocation_count D c) (invocation_rows D c) k in
           ⊎_elim
           (λ e. rw e (q.1, refl))
           (λ g. let p = in_list (input_count D (invoked D c q.0)) (guard_row D c q.0) g in rw p.2 (q.1, p.1, refl))
@@ -46,7 +46,7 @@ module _ (D : Design) (c : ℕ) where
 
   -- The rows are these and no others.
   pub rows_are : (r : Row) → Has (rows D c) r ↔ RowOf D c r
-  rows_are r = (in_rows r, to-rows r)
+  rows_are r = (in_rows r, to_rows r)
 
   -- The rows grow invocation by invocation, and last by the outputs.
   pub rows_next : (j : ℕ) → rows_before D c (suc j) ≡ rows_before D c j ++ invocation_rows D c j
@@ -57,9 +57,9 @@ module _ (D : Design) (c : ℕ) where
   unfolding rows
   rows_last = refl
 
-  pub length-invocation : (j : ℕ) → length (invocation_rows D c j) ≡ suc (input_count D (invoked D c j))
+  pub length_invocation : (j : ℕ) → length (invocation_rows D c j) ≡ suc (input_count D (invoked D c j))
   unfolding invocation_rows
-  length-invocation j = ap suc (length-list (input_count D (invoked D c j)) (guard_row D c j))
+  length_invocation j = ap suc (length_list (input_count D (invoked D c j)) (guard_row D c j))
 
   pub length_before : (j : ℕ) → length (rows_before D c j) ≡ go_place D c j
   unfolding rows_before go_place
@@ -67,7 +67,7 @@ module _ (D : Design) (c : ℕ) where
   length_before (suc j) =
       let h = length_before j in
       let a = length-append (join_below j (invocation_rows D c)) (invocation_rows D c j) in
-      let b = length-invocation j in
+      let b = length_invocation j in
       omega arith
 
   pub length_rows : length (rows D c) ≡ row_count D c
@@ -75,44 +75,44 @@ module _ (D : Design) (c : ℕ) where
   length_rows =
       let h = length_before (invocation_count D c) in
       let a = length-append (rows_before D c (invocation_count D c)) (list_below (output_count D c) (out_row D c)) in
-      let b = length-list (output_count D c) (out_row D c) in
+      let b = length_list (output_count D c) (out_row D c) in
       omega arith
 
-  placed-invocation : (j : ℕ) → Placed (place D c) (go_place D c j) (invocation_rows D c j)
+  placed_invocation : (j : ℕ) → Placed (place D c) (go_place D c j) (invocation_rows D c j)
   unfolding invocation_rows go_row guard_row guard_place
-  placed-invocation j =
-      (refl, placed-list (place D c) (suc (go_place D c j)) (input_count D (invoked D c j)) (guard_row D c j) (λ i. omega arith))
+  placed_invocation j =
+      (refl, placed_list (place D c) (suc (go_place D c j)) (input_count D (invoked D c j)) (guard_row D c j) (λ i. omega arith))
 
-  placed-before : (j : ℕ) → Placed (place D c) 0 (rows_before D c j)
+  placed_before : (j : ℕ) → Placed (place D c) 0 (rows_before D c j)
   unfolding rows_before register_row
-  placed-before zero = (refl, tt)
-  placed-before (suc j) =
-      placed-append (place D c) 0 (go_place D c j) (rows_before D c j) (invocation_rows D c j) (placed-before j)
-      (let h = length_before j in omega arith) (placed-invocation j)
+  placed_before zero = (refl, tt)
+  placed_before (suc j) =
+      placed_append (place D c) 0 (go_place D c j) (rows_before D c j) (invocation_rows D c j) (placed_before j)
+      (let h = length_before j in omega arith) (placed_invocation j)
 
   placed : Placed (place D c) 0 (rows D c)
   unfolding rows out_row out_place
   placed =
-      placed-append (place D c) 0 (go_place D c (invocation_count D c)) (rows_before D c (invocation_count D c))
-      (list_below (output_count D c) (out_row D c)) (placed-before (invocation_count D c))
+      placed_append (place D c) 0 (go_place D c (invocation_count D c)) (rows_before D c (invocation_count D c))
+      (list_below (output_count D c) (out_row D c)) (placed_before (invocation_count D c))
       (let h = length_before (invocation_count D c) in omega arith)
-      (placed-list (place D c) (go_place D c (invocation_count D c)) (output_count D c) (out_row D c) (λ o. refl))
+      (placed_list (place D c) (go_place D c (invocation_count D c)) (output_count D c) (out_row D c) (λ o. refl))
 
   -- Each row stands in its place.
   pub row_at : (d r : Row) → RowOf D c r → (place D c r < row_count D c) × (get_or (rows D c) (place D c r) d ≡ r)
-  row_at d r h = rw (← length_rows) (placed-there (place D c) 0 (rows D c) d r (place D c r) placed (to-rows r h) (omega arith))
+  row_at d r h = rw (← length_rows) (placed_there (place D c) 0 (rows D c) d r (place D c r) placed (to_rows r h) (omega arith))
 
   -- In each place stands a row that has it.
-  pub place-has : (d : Row) (i : ℕ) → i < row_count D c → RowOf D c (get_or (rows D c) i d) × (place D c (get_or (rows D c) i d) ≡ i)
-  place-has d i l =
+  pub place_has : (d : Row) (i : ℕ) → i < row_count D c → RowOf D c (get_or (rows D c) i d) × (place D c (get_or (rows D c) i d) ≡ i)
+  place_has d i l =
       let k : i < length (rows D c) = let e = length_rows in omega arith in
       let e = placed_at (place D c) 0 (rows D c) d i placed k in
-      (in_rows (get_or (rows D c) i d) (has-at (rows D c) d i k), omega arith)
+      (in_rows (get_or (rows D c) i d) (has_at (rows D c) d i k), omega arith)
 
   -- No other list of as many has each row of the component in its place.
-  pub rows-only : (d : Row) (l : List Row) → length l ≡ row_count D c → ((r : Row) → RowOf D c r → get_or l (place D c r) d ≡ r) → l ≡ rows D c
-  rows-only d l e h =
+  pub rows_only : (d : Row) (l : List Row) → length l ≡ row_count D c → ((r : Row) → RowOf D c r → get_or l (place D c r) d ≡ r) → l ≡ rows D c
+  rows_only d l e h =
       let n = length_rows in
       ext_get_or d l (rows D c) (omega arith) (λ i k.
-      let p = place-has d i (omega arith) in
+      let p = place_has d i (omega arith) in
       rw p.1 at (h (get_or (rows D c) i d) p.0))
