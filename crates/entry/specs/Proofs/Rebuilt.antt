@@ -8,14 +8,14 @@ use Rattle.std.proofs.Math.Seq.{get_or-append_seam}
 use Rattle.timeline.specs.Design.{Design, Component, Call, Port, Source, Class, no_component}
 use Rattle.entry.specs.Lists.{add_last}
 use Rattle.entry.specs.Records.{input, output, instance, argument, connection, Record, part, invocations, parts, records}
-use Rattle.entry.specs.Entered.{Entered, nothing, after, new, enter_all, said, design}
+use Rattle.entry.specs.Entered.{Entered, nothing, after, new, enter, enter_all, said, design}
 use Rattle.entry.specs.Proofs.Lists.{add_last_append, change_last_add_last}
 use Rattle.entry.specs.Proofs.Good.{Even, All}
 
 pub enter_append : (e : Entered) (xs ys : List Record) → enter_all e (xs ++ ys) ≡ enter_all (enter_all e xs) ys
 unfolding enter_all
 enter_append e [] ys = refl
-enter_append e (x ∷ xs) ys = enter_append _ xs ys
+enter_append e (x ∷ xs) ys = enter_append (enter e x) xs ys
 
 -- As much of a component as has been entered.
 abbrev pub made : Class → ℕ → List Port → List Port → List ℕ → List Call → List (List Source) → List Source → Component
