@@ -12,7 +12,7 @@ use Rattle.timetable.specs.Lists.{Has, list_below, greatest}
 pub in_join : {A : Type 0} {a : A} (n : ℕ) (F : ℕ → List A) → Has (join_below n F) a → (j : ℕ) × (j < n) × Has (F j) a
 in_join zero F m = absurd (Memᴰ.not-nil m)
 in_join {a = a} (suc n) F m =
-    ⊎_elim (λ k. let r : (j : ℕ) × (j < n) × Has (F j) a = in_join n F k in (r.0, omega (arith, r.1), r.2)) (λ k. (n, omega arith, k)) (Memᴰ.append_cases (join_below n F) m)
+    ⊎_elim (λ (k : Has (join_below n F) a). let r : (j : ℕ) × (j < n) × Has (F j) a = in_join n F k in (r.0, omega (arith, r.1), r.2)) (λ k. (n, omega arith, k)) (Memᴰ.append_cases (join_below n F) m)
 
 pub to_join : {A : Type 0} {a : A} (n : ℕ) (F : ℕ → List A) (j : ℕ) → j < n → Has (F j) a → Has (join_below n F) a
 to_join zero F j l m = absurd (omega arith)
