@@ -3,13 +3,9 @@
 use Rattle.std.specs.Prelude.{ℕ, ◌≤◌, List}
 use Rattle.answers.specs.declared.Refusal.{Refusal}
 use Rattle.answers.specs.declared.Counted.{Counted}
-use Rattle.answers.specs.declared.Counted.TheVariants as Counted
 use Rattle.answers.specs.declared.Lookup.{Lookup}
-use Rattle.answers.specs.declared.Lookup.TheVariants as Lookup
 use Rattle.answers.specs.declared.Written.{Written}
-use Rattle.answers.specs.declared.Written.TheVariants as Written
 use Rattle.answers.specs.declared.Verdict.{Verdict}
-use Rattle.answers.specs.declared.Verdict.TheVariants as Verdict
 
 -- "A refusal hands back its number and position": the code's own struct is the record of the definitions too.
 abbrev pub refusal : (number position : ℕ) → Refusal

@@ -4,13 +4,9 @@ use Rattle.std.specs.Prelude.{ℕ, ◌≡◌, refl}
 use Rattle.std.proofs.Common.{ap, sym, arith}
 use Rattle.answers.specs.declared.Refusal.{Refusal}
 use Rattle.answers.specs.declared.Counted.{Counted}
-use Rattle.answers.specs.declared.Counted.TheVariants as Counted
 use Rattle.answers.specs.declared.Lookup.{Lookup}
-use Rattle.answers.specs.declared.Lookup.TheVariants as Lookup
 use Rattle.answers.specs.declared.Written.{Written}
-use Rattle.answers.specs.declared.Written.TheVariants as Written
 use Rattle.answers.specs.declared.Verdict.{Verdict}
-use Rattle.answers.specs.declared.Verdict.TheVariants as Verdict
 use Rattle.answers.specs.Answer.{Answer, accepted, refused, then, Numbered, Sure, Counts, counted, looked_up, written, judged}
 
 -- An acceptance is no refusal, and a refusal tells itself.

@@ -16,8 +16,8 @@ use Rattle.timeline.specs.Design.{Design}
 use Rattle.timeline.specs.Rules.{Lawful}
 use Rattle.entry.specs.Records.{Record, component, parts, records}
 use Rattle.entry.specs.Verdict.{verdict}
-use Rattle.entry.specs.Main.{accepted_exactly}
-use Rattle.reading.specs.Proofs.Ranges.{AllInRange, accepted_in_range}
+use Rattle.entry.proofs.Main.{accepted_exactly}
+use Rattle.reading.proofs.Ranges.{AllInRange, accepted_in_range}
 use Rattle.records.specs.Decoded.{decoded}
 use Rattle.records.specs.Encoded.{encoded}
 use Rattle.look.specs.Listed.{sixteens, records_of}

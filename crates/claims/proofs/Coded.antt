@@ -8,7 +8,7 @@ use lib.ListN.{length, take, drop}
 use Rattle.entry.specs.Records.{Record, wrong}
 use Rattle.entry.specs.Entered.{nothing}
 use Rattle.entry.specs.Asks.{InRange}
-use Rattle.reading.specs.Proofs.Ranges.{AllInRange}
+use Rattle.reading.proofs.Ranges.{AllInRange}
 use Rattle.numbers.specs.Numbers.{Bytes}
 use Rattle.numbers.proofs.Bytes as Bytes
 use Rattle.records.specs.Decoded.{decoded}

@@ -20,8 +20,9 @@ use Rattle.numbers.proofs.Bytes.{number_bytes}
 use Rattle.timeline.specs.Design.{Design}
 use Rattle.timeline.specs.Rules.{Lawful}
 use Rattle.timeline.specs.Flat.{Row, row_count, unit_count, rows}
-use Rattle.timeline.specs.Listing.{no_row, flat_listing}
-use Rattle.timeline.specs.Proofs.Rows.{cycle_below}
+use Rattle.timeline.specs.Listing.{no_row}
+use Rattle.timeline.proofs.Listing.{flat_listing}
+use Rattle.timeline.proofs.Rows.{cycle_below}
 use Rattle.verdict.specs.Judgement.{judgement}
 use Rattle.groups.specs.Groups.{design_of}
 use Rattle.expansion.specs.Bytes.{row_bytes, rows_bytes}

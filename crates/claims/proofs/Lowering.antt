@@ -18,7 +18,7 @@ use Rattle.timeline.specs.Design.{Design, leaf, built, class}
 use Rattle.reading.specs.Tests.{is_built}
 use Rattle.timetable.specs.Rows.{Row, rows}
 use Rattle.timetable.specs.Bytes.{read_rows}
-use Rattle.timetable.specs.Main.{bytes_read_back}
+use Rattle.timetable.proofs.Main.{bytes_read_back}
 use Rattle.verdict.specs.Judgement.{judgement}
 use Rattle.groups.specs.Groups.{design_of}
 use Rattle.lowering.specs.Answer.{component_rows, lowered, lower_left}

@@ -18,14 +18,16 @@ use Rattle.blocks.specs.Sound.{sound_count}
 use Rattle.timeline.specs.Design.{built, class, delay}
 use Rattle.timeline.specs.Rules.{Lawful}
 use Rattle.timeline.specs.Uses.{Spaced}
-use Rattle.timeline.specs.Demand3.{Safe, demand_3}
-use Rattle.timeline.specs.Listing.{Listed, flat_listing}
+use Rattle.timeline.specs.Demand3.{Safe}
+use Rattle.timeline.proofs.Demand3.{demand_3}
+use Rattle.timeline.specs.Listing.{Listed}
+use Rattle.timeline.proofs.Listing.{flat_listing}
 use Rattle.entry.specs.Records.{Record, records}
 use Rattle.entry.specs.Answers as Entry
 use Rattle.entry.specs.Verdict.{verdict}
-use Rattle.entry.specs.Main as Entry-main
+use Rattle.entry.proofs.Main as Entry-main
 use Rattle.timetable.specs.Lowered.{Lowered, Wired}
-use Rattle.timetable.specs.Main as Timetable
+use Rattle.timetable.proofs.Main as Timetable
 use Rattle.packing.specs.Packed.{packed}
 use Rattle.records.specs.Encoded.{encoded}
 use Rattle.look.specs.Listed.{records_of}

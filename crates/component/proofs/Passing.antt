@@ -18,7 +18,8 @@ use Rattle.entry.specs.Records.{Part, Record, wrong, component, part}
 use Rattle.reading.specs.Place.{may_end}
 use Rattle.reading.specs.Reader as Reading
 use Rattle.reading.specs.Reader.{Row, View, tests}
-use Rattle.reading.specs.Told.{told, told_number}
+use Rattle.reading.specs.Told.{told}
+use Rattle.reading.proofs.Told.{told_number}
 use Rattle.reading.specs.Reads.{Ranged, Passes}
 use Rattle.rules.specs.Failed.{first_failed}
 use Rattle.records.specs.Decoded.{decoded}

@@ -7,7 +7,7 @@ use native.Mathlib.Nat.{le-max_left, le-max_right, max-le}
 use native.Mathlib.Decide.{ℕ_discrete}
 use Rattle.timeline.specs.Design.{Design, input_count, output_count, invocation_count, input, output, invoked, offset, gives}
 use Rattle.timetable.specs.States.{states}
-use Rattle.timetable.specs.Laws.{states_cover, states_only}
+use Rattle.timetable.proofs.Laws.{states_cover, states_only}
 
 -- m is the greatest of 1 and the ends of component d's ports.
 pub record Lasts (D : Design) (d m : ℕ) : Type 0 where

@@ -9,7 +9,7 @@ use lib.ListN.{length, take, drop}
 use Rattle.timeline.specs.Design.{Design}
 use Rattle.timetable.specs.Rows.{invocation_rows, rows_before}
 use Rattle.timetable.specs.Bytes.{rows_bytes}
-use Rattle.timetable.specs.Laws.{length_before, length_invocation}
+use Rattle.timetable.proofs.Laws.{length_before, length_invocation}
 use Rattle.rows.specs.declared.Use.{Use}
 use Rattle.rows.specs.Rows as Rows
 use Rattle.rows.proofs.Laws.{rows_more}

@@ -10,7 +10,7 @@ use lib.Seq.{get_or-set_same, get_or-set_other}
 use Rattle.timeline.specs.Design.{Design, leaf, built, class, invocation_count}
 use Rattle.timeline.specs.Rules.{Lawful}
 use Rattle.timeline.specs.Flat.{row_count, unit_count}
-use Rattle.timeline.specs.Proofs.Rows.{row_count_leaf, unit_count_leaf}
+use Rattle.timeline.proofs.Rows.{row_count_leaf, unit_count_leaf}
 use Rattle.entry.specs.Numbers.{component_number}
 use Rattle.expansion.specs.Notes.{first_note}
 use Rattle.expansion.specs.Noted.{capped, NotesOf, Alike, Noted}

@@ -9,7 +9,7 @@ use native.Mathlib.Numerals.{add-one}
 use lib.ListN.{length}
 use Rattle.timeline.specs.Design.{Design, Class, leaf, built, class, input_count, output_count, instance_count, invocation_count, made_of, instance, invoked, offset}
 use Rattle.entry.specs.Numbers.{component_number, input_number, output_number, instance_number, invocation_number, connection_number}
-use Rattle.entry.specs.Laws.{next_component}
+use Rattle.entry.proofs.Laws.{next_component}
 use Rattle.reading.specs.Tests.{is_built}
 use Rattle.reading.specs.Reader.{Row}
 use Rattle.reader.specs.Rows.{row_in}

@@ -12,7 +12,7 @@ use borrow.Author.Tests.{eq-eqb, ne_eqb}
 use Rattle.timeline.specs.Design.{Design, built, class, instance_count, invocation_count, made_of, instance, invoked, offset}
 use Rattle.timeline.specs.Rules.{Lawful}
 use Rattle.timeline.specs.Flat.{row_count, unit_count, units_before}
-use Rattle.timeline.specs.Proofs.Rows.{row_count_built, unit_count_built, units_before_sum}
+use Rattle.timeline.proofs.Rows.{row_count_built, unit_count_built, units_before_sum}
 use Rattle.entry.specs.Numbers.{invocation_number}
 use Rattle.groups.proofs.Order.{invocations_rise}
 use Rattle.expansion.specs.Notes.{put_note}

@@ -1,16 +1,10 @@
 -- The squaring example and its starred cases. (01, The squaring example)
 -- Assumes nothing.
-use Rattle.std.specs.Prelude.{ℕ, ◌≡◌, refl, List, [], ◌∷◌, map, set}
-use Rattle.std.proofs.Math.Decide.{ℕ_discrete, dec_le, dec_lt}
+use Rattle.std.specs.Prelude.{ℕ, List, [], ◌∷◌, set}
 use Rattle.answers.specs.Answer.{Answer, accepted, refused, Counts, refusal}
-use Rattle.timeline.specs.Design.{Port, own, output_of, constant, leaf, built, no_port, no_call, no_component}
-use Rattle.entry.specs.Lists.{add_last, change_last}
+use Rattle.timeline.specs.Design.{Port, own, output_of, constant, leaf, built}
 use Rattle.entry.specs.Records.{Record, component, part, input, output, instance, invocation, argument, connection}
-use Rattle.entry.specs.Decisions.{decide_as, decide_unit, decide_never, decide_if, decide_both, decide_three, decide_four, decide_either, decide_below, decide_empty, decide_class, decide_port_range, decide_source_range, decide_contains}
-use Rattle.entry.specs.Decide.{decide_part_range, decide_in_range, decide_there, decide_wide, decide_ready, decide_part, decide_further, decide, decide_end}
-use Rattle.entry.specs.Told.{told}
 use Rattle.entry.specs.Answers.{Answers}
-use Rattle.entry.specs.Verdict.{first, judge, verdict}
 
 -- "All widths 32."
 unfoldable pub from_to : ℕ → ℕ → Port
@@ -73,8 +67,3 @@ cases =
 abbrev pub Answered : List (List Record × Answer Counts) → Type 0
 Answered [] = Unit
 Answered (t ∷ rest) = Answers t.0 t.1 × Answered rest
-
--- And by computing.
-pub computed : map (λ t. verdict t.0) cases ≡ map (λ t. t.1) cases
-unfolding from_to at_offset squaring cases add_last change_last no_port no_call no_component told first judge verdict decide decide_end decide_further decide_part decide_in_range decide_part_range decide_there decide_wide decide_ready decide_as decide_unit decide_never decide_if decide_both decide_three decide_four decide_either decide_below decide_empty decide_class decide_port_range decide_source_range decide_contains dec_le dec_lt ℕ_discrete
-computed = refl

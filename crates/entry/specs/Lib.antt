@@ -12,6 +12,3 @@ pub mod Decisions
 pub mod Decide
 pub mod Verdict
 pub mod Cases
-pub mod Main
-pub mod Laws
-pub mod Proofs

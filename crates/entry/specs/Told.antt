@@ -1,6 +1,6 @@
 -- What a refusal tells, found after the fact. (01, Answers)
 -- Assumes nothing.
-use Rattle.std.specs.Prelude.{ℕ, ◌≡◌, refl}
+use Rattle.std.specs.Prelude.{ℕ}
 use Rattle.answers.specs.declared.Refusal.{Refusal}
 use Rattle.answers.specs.Answer.{refusal}
 use Rattle.entry.specs.Records.{Record}
@@ -10,8 +10,3 @@ use Rattle.entry.specs.Entered.{Entered}
 -- and the rule's number n. Where the list ends incomplete, p is the "record count", and x is `wrong`: there is no record.
 unfoldable pub told : (e : Entered) → (x : Record) → (p n : ℕ) → Refusal
 told e x p n = refusal n p
-
--- Its number is the rule's.
-pub told_number : (e : Entered) (x : Record) (p n : ℕ) → (told e x p n).number ≡ n
-unfolding told
-told_number e x p n = refl

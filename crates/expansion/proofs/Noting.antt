@@ -10,7 +10,7 @@ use lib.Seq.{get_or-set_same, get_or-set_other}
 use Rattle.timeline.specs.Design.{Design, invocation_count, invoked, offset}
 use Rattle.timeline.specs.Rules.{Lawful}
 use Rattle.timeline.specs.Flat.{row_count, units_before, rows_from}
-use Rattle.timeline.specs.Proofs.Rows.{rows_none}
+use Rattle.timeline.proofs.Rows.{rows_none}
 use Rattle.expansion.specs.Notes.{note_component, note_offset, note_units, join_from, put_note}
 use Rattle.expansion.specs.Noted.{capped, Named, note_rows, invocation_rows, NotesOf, Alike}
 use Rattle.expansion.proofs.Listed.{join_from_same}

@@ -9,7 +9,7 @@ use lib.ListN.{length}
 use Rattle.timeline.specs.Design.{Design, Class, leaf, built, class}
 use Rattle.timeline.specs.Rules.{Lawful}
 use Rattle.timeline.specs.Flat.{row_count, unit_count, rows_from}
-use Rattle.timeline.specs.Proofs.Rows.{rows_length, rows_leaf, rows_built}
+use Rattle.timeline.proofs.Rows.{rows_length, rows_leaf, rows_built}
 use Rattle.expansion.specs.Notes.{note_component, note_offset, note_units, first_note, join_from, listed}
 use Rattle.expansion.specs.Asked.{Sound}
 use Rattle.expansion.specs.Noted.{note_rows, invocation_rows, Noted}

@@ -8,7 +8,7 @@ use lib.ListN.{length}
 use Rattle.timeline.specs.Design.{Design, Class, leaf, built, class, instance_count, invocation_count, made_of, instance, invoked}
 use Rattle.timeline.specs.Rules.{Lawful}
 use Rattle.timeline.specs.Flat.{sum_below, unit_count, units_before}
-use Rattle.timeline.specs.Proofs.Rows.{unit_count_built, units_before_sum}
+use Rattle.timeline.proofs.Rows.{unit_count_built, units_before_sum}
 use Rattle.expansion.specs.Noted.{capped}
 
 -- Counts stopped on the way are stopped at the end, and otherwise whole.

@@ -18,8 +18,8 @@ use Rattle.entry.specs.Records as Records
 use Rattle.entry.specs.Records.{Record, part, records}
 use Rattle.entry.specs.Numbers.{component_number, input_number, output_number, instance_number, invocation_number, connection_number, At, Standing}
 use Rattle.entry.specs.Entered.{design}
-use Rattle.entry.specs.Main.{accepted_exactly, each_stands, the_design}
-use Rattle.entry.specs.Laws.{next_component, all_components}
+use Rattle.entry.proofs.Main.{accepted_exactly, each_stands, the_design}
+use Rattle.entry.proofs.Laws.{next_component, all_components}
 use Rattle.reading.specs.Tests.{is_built}
 use Rattle.reading.specs.Reader.{Row}
 use Rattle.reader.specs.Rows.{row_in}

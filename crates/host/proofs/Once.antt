@@ -15,7 +15,7 @@ use Rattle.blocks.specs.Sound.{sound_sure}
 use Rattle.packing.specs.Packed.{list_allowed}
 use Rattle.packing.specs.Answer.{into, pack_answer, unpack_answer}
 use Rattle.timeline.specs.Design.{Design, class}
-use Rattle.entry.specs.Laws.{verdict_sure}
+use Rattle.entry.proofs.Laws.{verdict_sure}
 use Rattle.reading.specs.Tests.{is_built}
 use Rattle.look.specs.Listed.{records_of}
 use Rattle.timeline.specs.Flat.{row_count, unit_count}

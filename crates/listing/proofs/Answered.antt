@@ -15,7 +15,7 @@ use Rattle.answers.specs.Answer.{Answer, accepted, refused, refusal}
 use Rattle.timeline.specs.Design.{Design}
 use Rattle.timeline.specs.Rules.{Lawful}
 use Rattle.timeline.specs.Flat.{row_count, unit_count, rows}
-use Rattle.timeline.specs.Proofs.Rows.{rows_length, rows_none}
+use Rattle.timeline.proofs.Rows.{rows_length, rows_none}
 use Rattle.expansion.specs.Bytes.{rows_bytes}
 use Rattle.expansion.specs.Notes.{listed}
 use Rattle.expansion.specs.Asked.{Expands}

@@ -11,8 +11,8 @@ use Rattle.timetable.specs.Lists.{list_below}
 use Rattle.timetable.specs.States.{states}
 use Rattle.timetable.specs.Rows.{register, register_row, out_row, rows_before}
 use Rattle.timetable.specs.Bytes.{row_bytes, rows_bytes}
-use Rattle.timetable.specs.Laws.{length_before, length_rows, rows_last, length_bytes}
-use Rattle.timetable.specs.Proofs.Lists.{length_list}
+use Rattle.timetable.proofs.Laws.{length_before, length_rows, rows_last, length_bytes}
+use Rattle.timetable.proofs.Lists.{length_list}
 use Rattle.rows.specs.Rows.{output_rows}
 use Rattle.rows.proofs.Laws.{bytes_one, rows_more, rows_end, rows_long}
 use Rattle.control.specs.declared.Built.{Built}

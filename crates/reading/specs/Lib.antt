@@ -10,5 +10,3 @@ pub mod Told
 pub mod Step
 pub mod Table
 pub mod Reads
-pub mod Main
-pub mod Proofs

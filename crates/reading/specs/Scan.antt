@@ -9,7 +9,7 @@ use Rattle.entry.specs.Records.{Record, wrong}
 use Rattle.entry.specs.Entered.{Entered, enter, said}
 use Rattle.entry.specs.Asks.{Asks, asks, ending}
 use Rattle.entry.specs.Told.{told}
-use Rattle.entry.specs.Laws.{Keeps}
+use Rattle.entry.proofs.Laws.{Keeps}
 use Rattle.reading.specs.Tests.{Means}
 
 -- Tests, each with the number of its refusal.

@@ -5,7 +5,7 @@ use Rattle.std.proofs.Common.{ap, ◌∙◌, inl, inr, ⊎_elim, eqb→eq, ltb�
 use Rattle.std.proofs.Math.Dec.{eqb_refl}
 use Rattle.std.proofs.Math.Decide.{ℕ_discrete}
 use Rattle.timeline.specs.Design.{Class, leaf, built}
-use Rattle.entry.specs.Laws.{empty_of_length}
+use Rattle.entry.proofs.Laws.{empty_of_length}
 
 -- A record, so that the test and the fact are found where they are left out.
 pub record Means (t : Bool) (P : Type 0) : Type 0 where

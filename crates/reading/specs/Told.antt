@@ -1,6 +1,6 @@
 -- What a refusal tells, by what a reader keeps: found after the fact, where a test has failed. (entry/specs/Told.antt)
 -- Assumes nothing.
-use Rattle.std.specs.Prelude.{ℕ, ◌≡◌, refl}
+use Rattle.std.specs.Prelude.{ℕ}
 use Rattle.answers.specs.declared.Refusal.{Refusal}
 use Rattle.answers.specs.Answer.{refusal}
 use Rattle.entry.specs.Records.{Record}
@@ -9,8 +9,3 @@ use Rattle.reading.specs.Reader.{View}
 -- Of record x, number p, that fails the test with number n.
 unfoldable pub told : View → (x : Record) → (p n : ℕ) → Refusal
 told v x p n = refusal n p
-
--- Its number is the test's.
-pub told_number : (v : View) (x : Record) (p n : ℕ) → (told v x p n).number ≡ n
-unfolding told
-told_number v x p n = refl

@@ -14,8 +14,8 @@ use Rattle.look.specs.Look.{look}
 use Rattle.timetable.specs.Lists.{list_below}
 use Rattle.timetable.specs.Rows.{Row, go}
 use Rattle.timetable.specs.Bytes.{row_bytes, rows_bytes}
-use Rattle.timetable.specs.Laws.{length_bytes, bytes_append}
-use Rattle.timetable.specs.Proofs.Lists.{length_list}
+use Rattle.timetable.proofs.Laws.{length_bytes, bytes_append}
+use Rattle.timetable.proofs.Lists.{length_list}
 use Rattle.rows.specs.declared.Use.{Use}
 use Rattle.rows.specs.Rows.{latest, guard_row, output_row}
 

@@ -7,9 +7,6 @@ pub mod Paths
 pub mod Uses
 pub mod Wires
 pub mod Flat
-pub mod Proofs
 pub mod Demand3
 pub mod Listing
 pub mod Decide
-pub mod IsLawful
-pub mod Squaring

@@ -2,7 +2,7 @@
 -- Everything is said of component c by the numbers of its parts.
 -- Assumes nothing.
 use Rattle.std.specs.Prelude.{ℕ, ◌+◌, ◌^◌, ◌≤◌, ◌<◌, ◌≡◌, ◌⊎◌, ◌≢◌, length}
-use Rattle.timeline.specs.Design.{Design, Port, Source, own, output_of, constant, Class, leaf, built, component, class, delay, input_count, output_count, instance_count, invocation_count, argument_count, connection_count, input, output, made_of, instance, invoked, offset, argument, connection, takes, gives}
+use Rattle.timeline.specs.Design.{Design, Port, Source, own, output_of, constant, leaf, built, component, class, delay, input_count, output_count, instance_count, invocation_count, argument_count, connection_count, input, output, made_of, instance, invoked, offset, argument, connection, takes, gives}
 
 -- "start s; end e, with s < e ≤ 1,024; width, 1 to 64"
 pub record PortRange (p : Port) : Type 0 where

@@ -11,7 +11,3 @@ pub mod Register
 pub mod Drives
 pub mod Units
 pub mod Lowered
-pub mod Proofs
-pub mod Main
-pub mod Squaring
-pub mod Laws

@@ -15,7 +15,7 @@ use Rattle.timeline.specs.Rules.{Lawful}
 use Rattle.entry.specs.Records.{records}
 use Rattle.entry.specs.Entered.{design}
 use Rattle.entry.specs.Verdict.{verdict}
-use Rattle.entry.specs.Main.{accepted_exactly, its_records, the_design}
+use Rattle.entry.proofs.Main.{accepted_exactly, its_records, the_design}
 use Rattle.verdict.proofs.Whole.{length_from}
 use Rattle.look.specs.Listed.{records_of}
 use Rattle.verdict.specs.Judgement.{judgement}

@@ -17,7 +17,7 @@ use Rattle.blocks.specs.File.{sound}
 use Rattle.entry.specs.Numbers.{component_number}
 use Rattle.entry.specs.Entered.{design}
 use Rattle.entry.specs.Verdict.{verdict}
-use Rattle.entry.specs.Main.{accepted_exactly, the_design}
+use Rattle.entry.proofs.Main.{accepted_exactly, the_design}
 use Rattle.reading.specs.Changed.{changed, changed_there, changed_below}
 use Rattle.reading.specs.Reader.{Row}
 use Rattle.reading.specs.Table.{TableOf, RowOf, table}

@@ -13,7 +13,7 @@ use Rattle.entry.specs.Entered.{design}
 use Rattle.entry.specs.Verdict.{verdict}
 use Rattle.reading.specs.Reads.{Ranged, Reads}
 use Rattle.reading.specs.Table.{TableOf, table}
-use Rattle.reading.specs.Main as Reading
+use Rattle.reading.proofs.Main as Reading
 use Rattle.numbers.specs.Numbers.{Bytes}
 use Rattle.blocks.specs.File.{record_place}
 use Rattle.records.specs.Decoded.{decoded}
