@@ -96,7 +96,7 @@ module _ {noted ends : List ℕ} {c e t u at : ℕ} {old : List ℕ} (a : AskedF
 
 -- ---- the rows copied to the front of lent bytes
 module _ (rows : List Row) (r : ℕ) (array mid old : List ℕ) (size : ℕ) (w : Wrote rows 0 r array mid) (is : size ≡ 8 * length rows) (room : size ≤ length old) where
-  front : take size mid ≡ rows_bytes rows
+  pub front : take size mid ≡ rows_bytes rows
   unfolding pasted
   front = rw w.bytes (take_at (rows_bytes rows) (drop (0 + length (rows_bytes rows)) array) size (length_rows_bytes rows ∙ sym is))
 

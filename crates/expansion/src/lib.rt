@@ -28,6 +28,7 @@ fn wide(x: u16) -> u32
 }
 
 // Note e.
+#[tactic(auto, unfolding(crate::specs::Notes::note_component, crate::specs::Notes::note_offset, crate::specs::Notes::note_units))]
 fn note_at(noted: &[u16; 11904], e: usize) -> Note
     requires { e < 3968 }
     ensures { Says noted.now e result.component result.offset result.units }
@@ -40,6 +41,7 @@ fn note_at(noted: &[u16; 11904], e: usize) -> Note
     }
 }
 
+#[tactic(auto, unfolding(crate::specs::Notes::put_note))]
 pub fn put_note(noted: &mut [u16; 11904], e: usize, component: u16, offset: u16, units: u16)
     requires { e < 3968 }
     ensures { noted.new ≡ put_note noted.old e component offset units }
@@ -51,6 +53,7 @@ pub fn put_note(noted: &mut [u16; 11904], e: usize, component: u16, offset: u16,
 }
 
 // Where the notes of component c begin, and those of the one before it end.
+#[tactic(auto, unfolding(crate::specs::Notes::first_note))]
 fn first_note(ends: &[u16; 65], c: usize) -> usize
     requires { c ≤ 64 }
     ensures { (result ≡ first_note ends.now c) × (result < 65536) }
@@ -75,7 +78,7 @@ fn put_row(out: &mut [u8; 32768], at: usize, cycle: u32, unit: u32, c: usize) ->
 }
 
 // The rows of component c, begun in a cycle, its units numbered from a unit on; the place behind them.
-#[cycle(expand_expand_invocations)]
+#[cycle(expansion)]
 fn expand(
     noted: &[u16; 11904],
     ends: &[u16; 65],
@@ -96,7 +99,7 @@ fn expand(
 }
 
 // The rows of the noted invocations of component c, from note e on; the place behind them.
-#[cycle(expand_expand_invocations)]
+#[cycle(expansion)]
 fn expand_invocations(
     noted: &[u16; 11904],
     ends: &[u16; 65],

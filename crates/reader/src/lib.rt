@@ -83,6 +83,7 @@ fn one_less(x: usize) -> usize
     if 0 < x { x - 1 } else { 0 }
 }
 
+#[tactic(auto, unfolding(reading::specs::Tests::is_built))]
 fn is_built(k: Class) -> bool
     ensures { result ≡ is_built (class k) }
 {
@@ -93,6 +94,7 @@ fn is_built(k: Class) -> bool
 }
 
 // Row c of a table, five numbers to a row.
+#[tactic(auto, unfolding(crate::specs::Rows::row_in))]
 pub fn row_of(rows: &[u16], c: usize) -> Signature
     requires { 5 * c + 5 ≤ length rows.now }
     ensures { row result ≡ row_in rows.now c }
@@ -107,6 +109,7 @@ pub fn row_of(rows: &[u16], c: usize) -> Signature
     }
 }
 
+#[tactic(auto, unfolding(crate::specs::Rows::put_row))]
 pub fn put_row(rows: &mut [u16], c: usize, s: Signature)
     requires { 5 * c + 5 ≤ length rows.old }
     ensures { rows.new ≡ put_row rows.old c s }
@@ -350,6 +353,7 @@ pub fn is_component(x: Record) -> bool
 }
 
 // The row of the component that has been read.
+#[tactic(auto, unfolding(crate::specs::Rows::signature))]
 pub fn own_row(r: Reader) -> Signature
     requires { Few r }
     ensures { result ≡ signature (own_row (fresh r)) }

@@ -7,9 +7,7 @@ use Rattle.records.specs.declared.Class.{Class}
 use Rattle.records.specs.declared.Class.TheVariants.{Leaf, Built}
 use Rattle.records.specs.declared.Port.{Port}
 use Rattle.records.specs.declared.Source.{Source}
-use Rattle.records.specs.declared.Source.TheVariants as Source
 use Rattle.records.specs.declared.Record.{Record}
-use Rattle.records.specs.declared.Record.TheVariants as Record
 use Rattle.records.specs.Says as Says
 
 class : Design.Class → Class

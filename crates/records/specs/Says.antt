@@ -6,11 +6,8 @@ use Rattle.records.specs.declared.Class.{Class}
 use Rattle.records.specs.declared.Class.TheVariants.{Leaf, Built}
 use Rattle.records.specs.declared.Port.{Port}
 use Rattle.records.specs.declared.Source.{Source}
-use Rattle.records.specs.declared.Source.TheVariants as Source
 use Rattle.records.specs.declared.Sourced.{Sourced}
-use Rattle.records.specs.declared.Sourced.TheVariants as Sourced
 use Rattle.records.specs.declared.Record.{Record}
-use Rattle.records.specs.declared.Record.TheVariants as Record
 use Rattle.records.specs.Decoded.{Named, from, nothing}
 
 abbrev pub class : Class → Design.Class

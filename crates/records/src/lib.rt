@@ -75,6 +75,7 @@ fn zero_from_6(s: &[u8]) -> bool
     (numbers::two(s, 6) == 0) & (numbers::eight(s, 8) == 0)
 }
 
+#[tactic(auto, using(crate::proofs::Zeros::zero_seventh))]
 fn zero_from_7(s: &[u8]) -> bool
     requires { length s.now ≡ 16 }
     ensures { result ≡ all_zero (drop 7 s.now) }
@@ -185,6 +186,7 @@ fn source_of(s: &[u8]) -> Sourced
 }
 
 // What sixteen bytes say; any other number of bytes is wrong.
+#[tactic(auto, unfolding(crate::specs::Decoded::decoded))]
 pub fn decode(s: &[u8]) -> Record
     ensures { says result ≡ decoded s.now }
 {

@@ -3,6 +3,13 @@
 
 use answers::{Refusal, Verdict};
 
+// The numbers under which a program finds its input and its outputs open.
+pub const STDIN: i32 = 0;
+
+pub const STDOUT: i32 = 1;
+
+pub const STDERR: i32 = 2;
+
 // "A refusal prints only `refused 11 at 12`, with its numbers."
 pub fn refusal(fd: i32, r: Refusal) {
     io::write_all(fd, b"refused ");
