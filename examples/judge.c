@@ -1,7 +1,7 @@
 /* Judges a file through the library: judge [FILE], standard input without FILE. Prints the line that the program `judge` prints,
    'accepted C R' or 'refused N at P'. Exit status: 0 accepted, 1 refused, 2 misuse or a file that cannot be read.
 
-     rt staticlib host
+     tools/x86 archive
      cc -Iinclude -o judge examples/judge.c target/staticlib/libhost.a
      ./judge examples/squaring.design */
 #include <dansevik.h>

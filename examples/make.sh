@@ -26,7 +26,7 @@ one() {
 }
 
 for program in assemble pack judge show lower list; do
-    [ -x "$root/target/bin/$program" ] || (cd "$root" && mkdir -p target && rt check "$program" >target/examples.log 2>&1) || { echo "examples: could not build $program: see target/examples.log" >&2; exit 2; }
+    [ -x "$root/target/bin/$program" ] || sh "$root/tools/build" "$program" || exit 2
 done
 
 check=${1:-}

@@ -15,7 +15,7 @@ fresh() {
     cat >"$room/crates/one/src/lib.rt" <<'TEXT'
 // pub fn said_only() ensures { "
 pub fn promised(x: u8) -> u8
-    ensures { λ r. ⌜ r ≡ x ⌝ }
+    ensures { result ≡ x }
 {
     let brace = b"} ensures {";
     let other = b'{';
@@ -33,10 +33,10 @@ impl Pair {
         self,
         n: usize,
     ) -> usize
-        requires {
-            ⌜ (n < 4) × { n } ⌝
+        requires small {
+            (n < 4) × { n }
         }
-        ensures { λ r. ⌜ r ≡ n ⌝ }
+        ensures { result ≡ n }
     {
         n
     }
@@ -71,7 +71,7 @@ if ! sh "$room/tools/contracts" >"$room/out" 2>&1 || [ "$(cat "$room/out")" != '
 fi
 printf '\npub fn more() -> bool {\n    true\n}\n' >>"$room/crates/one/src/lib.rt"
 says 'a function that promises nothing' 'crates/one/src/lib.rt:32: one::more is without ensures, and tools/without-ensures.txt has no ground for it'
-printf '\nimpl Pair {\n    pub fn more(self)\n        ensures { λ r. ⌜ r ⌝ }\n        requires { ⌜ self ⌝ }\n    {}\n}\n' >>"$room/crates/one/src/part.rt"
+printf '\nimpl Pair {\n    pub fn more(self)\n        ensures { result }\n        requires { self }\n    {}\n}\n' >>"$room/crates/one/src/part.rt"
 says 'a method that asks' 'crates/one/src/part.rt:8: one::part::Pair::more has a requires, and tools/with-requires.txt has no ground for it'
 sed 's/pub fn prints/fn prints/' "$room/crates/one/src/lib.rt" >"$room/changed" && mv "$room/changed" "$room/crates/one/src/lib.rt"
 says 'a function that is gone' 'tools/without-ensures.txt:2: one::prints: no public function of that name is without ensures any more: take the line out'

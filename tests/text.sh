@@ -15,7 +15,7 @@ fail() {
 }
 
 for program in show assemble unpack; do
-    [ -x "target/bin/$program" ] || rt check "$program" >"$room/log" 2>&1 || { cat "$room/log" >&2; exit 1; }
+    [ -x "target/bin/$program" ] || sh tools/build "$program" || exit 1
 done
 
 # run NAME WORDS..: the proved program, on standard input
