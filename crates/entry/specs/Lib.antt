@@ -1,6 +1,6 @@
 -- The record list of a design, the design that a record list says, and the verdict on a record list.
 -- Definitions, in the order to read them: Lists, Records, Numbers, Entered, Asks, Told, Answers. How they are computed: Decisions, Decide, Verdict.
--- Results: Main, with the table of Cases. Laws is for other crates; Proofs is why it all holds.
+-- The squaring example and its cases: Cases. Results stand in proofs/Main; proofs/Laws is for other crates.
 pub mod Lists
 pub mod Records
 pub mod Numbers

@@ -1,6 +1,6 @@
 -- Reading a record list in one pass: what a program has to show of its tests and its state to give the verdict of entry.
 -- Definitions, in the order to read them: Tests, Scan, Place, Changed, Reader, Told, Step, Table, Reads.
--- Results: Main. Proofs is why they hold.
+-- Results stand in proofs/Main.
 pub mod Tests
 pub mod Scan
 pub mod Place

@@ -1,6 +1,6 @@
 -- What a component's timetable drives, the rows that it is lowered to, and that they drive the same.
 -- Definitions, in the order to read them: Lists, Table, States, Rows, Places, Bytes, Register, Drives, Units; then Lowered, what is shown of them.
--- Results: Main, with the squaring example in Squaring. Laws is for other crates; Proofs is why it all holds.
+-- Results stand in proofs/Main, with the squaring example in proofs/Squaring; proofs/Laws is for other crates.
 pub mod Lists
 pub mod Table
 pub mod States
