@@ -7,7 +7,6 @@ use native.Mathlib.Omega.{arith}
 use native.Mathlib.Nat.{le-max_left, le-max_right, max-le}
 use native.Mathlib.Decide.{dec_lt}
 use lib.ListN.{length}
-use Rattle.timetable.specs.Rows.{go}
 use Rattle.timeline.specs.Design.{Design, Port, output, built, class, input_count, output_count, invocation_count, input}
 use Rattle.timeline.specs.Rules.{Counts}
 use Rattle.entry.specs.Numbers.{component_number, input_number, output_number, instance_number, invocation_number, connection_number}

@@ -11,7 +11,7 @@ use text::{Cursor, Expected};
 pub use wanted::ask;
 
 // What a line says.
-#[derive(Drop)]
+#[derive(Clone, Copy)]
 pub enum Said {
     // nothing but blanks and a comment
     Nothing,
@@ -20,7 +20,7 @@ pub enum Said {
     Wrong(Expected),
 }
 
-#[derive(Drop)]
+#[derive(Clone, Copy)]
 pub struct Line {
     pub said: Said,
     pub bytes: [u8; 16],

@@ -3,19 +3,19 @@ use records::{Argument, Class, Port, Record, Source};
 use text::{Cursor, Expected};
 
 // What a sentence says, and the reader behind it.
-#[derive(Drop)]
+#[derive(Clone, Copy)]
 pub struct Sentence {
     pub record: Record,
     pub next: Cursor,
 }
 
-#[derive(Drop)]
+#[derive(Clone, Copy)]
 struct PortRead {
     port: Port,
     next: Cursor,
 }
 
-#[derive(Drop)]
+#[derive(Clone, Copy)]
 struct SourceRead {
     source: Source,
     next: Cursor,

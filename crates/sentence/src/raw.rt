@@ -1,7 +1,7 @@
 // Sixteen bytes that are written as they are.
 use text::{Cursor, Expected};
 
-#[derive(Drop)]
+#[derive(Clone, Copy)]
 pub struct RawRead {
     pub bytes: [u8; 16],
     pub next: Cursor,
