@@ -8,8 +8,8 @@ use mathlib.Core.Path.{◌≡◌}
 use Prim.Native.Nat.{ℕ, zero, suc}
 use mathlib.Core.List.{List, [], ◌∷◌, ◌++◌}
 use seplogic.Ra.Ura.{Ura}
-use seplogic.Ra.TreeShare.{full_share}
-use mir.Syntax.{Ty, Name, Place, place, Opd as Operand, copy, Body, seq, call}
+use base.Fraction.{full_share}
+use mir.Syntax.{Ty, Callee, Place, place, Opd as Operand, copy, Body, seq, call}
 use mir.Val.{Val}
 use base.Logic.{SProp, ent, sep, wand, emp, id⊢, via, comm∗, mono∗, mono_l, mono_r, snd∗, emp∗, wand_i, apply∗}
 use base.Fml.{fat, froom, flft}
@@ -40,11 +40,11 @@ module _ {M : Type 1} (𝓤 : Ura M) where
 
   abbrev pub owners : (Rs : List RattleType) → Denots Rs → Valss Rs → List (Item 𝓤)
   owners [] a vss = []
-  owners (R ∷ Rs) a vss = ‵ (R.own a.0 vss.0) ∷ owners Rs a.1 vss.1
+  owners (R ∷ Rs) a vss = ‵ (R.own_val a.0 vss.0) ∷ owners Rs a.1 vss.1
 
   abbrev last_of : {D : Type 0} (e : Exit D) (x : D) → Last e x → List (Item 𝓤) → List (Item 𝓤)
   last_of unchanged x w Γ = Γ
-  last_of (leaves L l S s) x w Γ = ‵ (l x w) ∷ Γ
+  last_of (leaves L l S s r₀) x w Γ = ‵ (l x w) ∷ Γ
 
   abbrev last_values : {n : ℕ} (κs : Lfts n) (ss : List (Slot n)) (ks : Kepts ss) (a : Denots (types_at ss κs)) → Fins κs ss ks a → List (Item 𝓤)
   last_values κs [] ks a ws = []
@@ -70,11 +70,11 @@ module _ {M : Type 1} {𝓤 : Ura M} (𝓛 : Logic 𝓤) where
 
     owners_in : (Rs : List RattleType) (a : Denots Rs) (vss : Valss Rs) → ent 𝓤 (⋆ 𝓛 (owners 𝓤 Rs a vss)) (sem 𝓛 (owns Rs a vss))
     owners_in [] a vss = id⊢ 𝓤 (emp 𝓤)
-    owners_in (R ∷ Rs) a vss = via 𝓤 _ (pop 𝓛 (‵ (R.own a.0 vss.0)) (owners 𝓤 Rs a.1 vss.1)) (mono_r 𝓤 (sem 𝓛 (R.own a.0 vss.0)) (owners_in Rs a.1 vss.1))
+    owners_in (R ∷ Rs) a vss = via 𝓤 _ (pop 𝓛 (‵ (R.own_val a.0 vss.0)) (owners 𝓤 Rs a.1 vss.1)) (mono_r 𝓤 (sem 𝓛 (R.own_val a.0 vss.0)) (owners_in Rs a.1 vss.1))
 
     owners_out : (Rs : List RattleType) (a : Denots Rs) (vss : Valss Rs) → ent 𝓤 (sem 𝓛 (owns Rs a vss)) (⋆ 𝓛 (owners 𝓤 Rs a vss))
     owners_out [] a vss = id⊢ 𝓤 (emp 𝓤)
-    owners_out (R ∷ Rs) a vss = via 𝓤 _ (mono_r 𝓤 (sem 𝓛 (R.own a.0 vss.0)) (owners_out Rs a.1 vss.1)) (push 𝓛 (‵ (R.own a.0 vss.0)) (owners 𝓤 Rs a.1 vss.1))
+    owners_out (R ∷ Rs) a vss = via 𝓤 _ (mono_r 𝓤 (sem 𝓛 (R.own_val a.0 vss.0)) (owners_out Rs a.1 vss.1)) (push 𝓛 (‵ (R.own_val a.0 vss.0)) (owners 𝓤 Rs a.1 vss.1))
 
     last_out : {D : Type 0} (e : Exit D) (x : D) (w : Last e x) (Γ : List (Item 𝓤)) → ent 𝓤 (sep 𝓤 (sem 𝓛 (left e x w)) (⋆ 𝓛 Γ)) (⋆ 𝓛 (last_of 𝓤 e x w Γ))
     last_out unchanged x w Γ = snd∗ 𝓤 (emp 𝓤) (⋆ 𝓛 Γ)
@@ -174,13 +174,13 @@ module _ {M : Type 1} {𝓤 : Ura M} (𝓛 : Logic 𝓤) (T : Ended) (c : Clause
 
     gives : K → Soaks G → Lawful 𝓛 R → (v : Val) → ((r : Res S y.0.0) (ws : Lasts T y.0.0 y.0.3) → Typed R.mir (v ∷ []) → Seq K 𝓛 (raw (Ensured r ws) ∷ (returned 𝓛 T y.0 v r ws ++ Γ)) G) → Seq K 𝓛 (raw (Known.post y v) ∷ Γ) G
     gives t soaks law v k =
-        use1 𝓛 (later (some (λ (r : Res S y.0.0). (raw (alive 𝓛 S y.0.0 y.0.1) ⊛ ‵ (R.own r (v ∷ []))) ⊛ some (λ (ws : Lasts T y.0.0 y.0.3). ‵ (lasts T y.0.0 y.0.3 ws) ⊛ raw (Ensured r ws))))) (id⊢ 𝓤 _) $ await t soaks $
+        use1 𝓛 (later (some (λ (r : Res S y.0.0). (raw (alive 𝓛 S y.0.0 y.0.1) ⊛ ‵ (R.own_val r (v ∷ []))) ⊛ some (λ (ws : Lasts T y.0.0 y.0.3). ‵ (lasts T y.0.0 y.0.3 ws) ⊛ raw (Ensured r ws))))) (id⊢ 𝓤 _) $ await t soaks $
         pick t (λ r. split t $ move t (1 ∷ []) $ pick t (λ ws. split t $ move t (2 ∷ []) $ split t $ move t (1 ∷ []) $ peeks t R (Is R) (shows 𝓛 R) r (v ∷ []) (λ is. move t (1 ∷ 0 ∷ []) $ join t $ move t (0 ∷ 1 ∷ []) $
         use2 𝓛 (raw (⋆ 𝓛 (returned 𝓛 T y.0 v r ws))) (returned_out 𝓛 T y.0 v r ws) $ move t (1 ∷ 0 ∷ []) $ spread (raw (Ensured r ws)) (returned 𝓛 T y.0 v r ws) $ k r ws (law.typed r (v ∷ []) is))))
 
   -- `!` comes once the contract and what the caller has chosen are known, since the context is read off them
   module _ (𝓣 : Tables 𝓤 H) {K : Type 0} {Γ : List (Item 𝓤)} where
-    pub calls_into : K → {E : Env 𝓤 H} {q : Post 𝓤 H} {f : Name} {xs : List Operand} {d : Place} {rest : Body} → Triple 𝓤 (𝓣.C f) Known → ent 𝓤 (emp 𝓤) ((c y.0.0 y.0.3).requires y.1) → Lawful 𝓛 R
+    pub calls_into : K → {E : Env 𝓤 H} {q : Post 𝓤 H} {f : Callee} {xs : List Operand} {d : Place} {rest : Body} → Triple 𝓤 (𝓣.C f) Known → ent 𝓤 (emp 𝓤) ((c y.0.0 y.0.3).requires y.1) → Lawful 𝓛 R
         → Opds K 𝓛 Γ E xs (passed 𝓛 S y.0) → {Γ' : Val → List (Item 𝓤)} → Stores K 𝓛 Γ E d R.mir Γ'
         → ((v : Val) (r : Res S y.0.0) (ws : Lasts T y.0.0 y.0.3) → Seq K 𝓛 (raw (Ensured r ws) ∷ (returned 𝓛 T y.0 v r ws ++ Γ' v)) (runs 𝓣.C 𝓣.Λ E rest q))
         → Seq K 𝓛 (asked 𝓛 S y.0 ++ Γ) (runs 𝓣.C 𝓣.Λ E (seq (call f xs d) rest) q)

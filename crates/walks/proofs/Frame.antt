@@ -9,7 +9,7 @@ use Prim.Native.Nat.{ℕ, zero, suc}
 use mathlib.Core.List.{List, [], ◌∷◌, ◌++◌}
 use lib.Dec.{T as Holds}
 use seplogic.Ra.Ura.{Ura}
-use seplogic.Ra.TreeShare.{full_share}
+use base.Fraction.{full_share}
 use mir.Syntax.{Ty, Local, local, Fn, return}
 use mir.Val.{Val, has_ty, WT}
 use base.Logic.{SProp, ent, sep, wand, emp, via, mono_r, wand_i, all_i, guard_i, emp∗}

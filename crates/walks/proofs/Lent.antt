@@ -9,7 +9,7 @@ use Prim.Native.Nat.{ℕ, zero, suc}
 use mathlib.Core.List.{List, [], ◌∷◌}
 use lib.ListN.{replicate, length-replicate}
 use seplogic.Ra.Ura.{Ura}
-use seplogic.Ra.TreeShare.{full_share}
+use base.Fraction.{full_share}
 use mir.Syntax.{ty_array}
 use mir.Val.{Val}
 use base.Logic.{ent}
@@ -28,7 +28,7 @@ use denote.Index.{whole_in, whole_out}
 use denote.Steps.{owned}
 
 module _ (R : RattleType) (x : R.Denot) (u : Val) (is : Is R x (u ∷ [])) where
-  each_is : (n : ℕ) → shadow (each R.Denot R.own (replicate n x) (replicate n u))
+  each_is : (n : ℕ) → shadow (each R.Denot R.own_val (replicate n x) (replicate n u))
   each_is zero = tt
   each_is (suc n) = (is, each_is n)
 

@@ -11,7 +11,7 @@ use mathlib.Core.List.{List, [], ◌∷◌, ◌++◌}
 use lib.Dec.{T as Holds, ltb, lit<}
 use lib.ListN.{length, replicate}
 use seplogic.Ra.Ura.{Ura}
-use seplogic.Ra.TreeShare.{full_share}
+use base.Fraction.{full_share}
 use mir.Syntax.{Ty, Lifetime, Mutability, Opd as Operand, Body, place, copy, int, addr_of, aggregate, repeat, seq, assign, w64, ty_ref, ty_array}
 use mir.Val.{Val, vptr}
 use base.Logic.{ent, sep, via, mono_r}

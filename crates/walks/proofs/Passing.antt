@@ -10,7 +10,7 @@ use Prim.Native.Nat.{ℕ, zero, suc, ◌<◌, ◌^◌}
 use mathlib.Core.List.{List, [], ◌∷◌, ◌++◌}
 use lib.ListN.{length}
 use seplogic.Ra.Ura.{Ura}
-use seplogic.Ra.TreeShare.{full_share}
+use base.Fraction.{full_share}
 use mir.Syntax.{Ty, Lifetime, Mutability, Step as PStep, Body, place, field, deref, copy, addr_of, aggregate, seq, assign, w64, ty_int, ty_ref}
 use mir.Val.{vint, vptr, vstruct, vnil, vcons}
 use base.Logic.{via, comm∗}

@@ -9,7 +9,7 @@ use mathlib.Core.Path.{◌≡◌, refl}
 use Prim.Native.Nat.{ℕ}
 use mathlib.Core.List.{List, [], ◌∷◌, ◌++◌}
 use seplogic.Ra.Ura.{Ura}
-use mir.Syntax.{Name, Fn, Width}
+use mir.Syntax.{Callee, Fn, Width}
 use mir.Val.{Val}
 use base.Logic.{SProp, ent, sep, emp, id⊢, via, mono_l, mono_r}
 use base.Fml.{ftrue}
@@ -21,7 +21,7 @@ use sound.WpLaws.{WpFn-mono}
 use denote.RattleType.{RattleType, Denots, Valss, flat, mirs}
 use denote.Laws.{Is, Ises, Are, Typed, Spells, Tells, Tellss, Lawful, Lawfuls, valss, all_Typed}
 use denote.Plain.{UInt, uint_vals, uint_Tells, uint_Lawful}
-use denote.Slice.{mut_slice_vals, shr_slice_Lawful, mut_slice_Lawful}
+use denote.Slice.{mut_slice_vals, shr_slice_vals, shr_slice_Lawful, mut_slice_Lawful}
 use denote.Exit.{Kept, yes, Last, left}
 use denote.Signature.{Slot, AllWithin, plain, mut_slice_of, shr_slice_of, name_of, meet_at, type_at, types_at}
 use denote.Triple.Statement.{Triple}
@@ -47,7 +47,7 @@ module _ {n : ℕ} where
   shared j ok R = record {
     stay = stay_dropped (shr_slice_of (j ∷ []) ok (plain (λ _. R))) yes;
     goes = λ 𝓛. Goes-dropped 𝓛 n (shr_slice_of (j ∷ []) ok (plain (λ _. R))) yes (λ κs x f. refl);
-    spell = λ κs. mut_slice_vals;
+    spell = λ κs. shr_slice_vals;
     tells = λ κs x vs p. p.0.0;
     lawful = λ 𝓛 κs. shr_slice_Lawful 𝓛 (name_of (j ∷ [])) (meet_at n (j ∷ []) ok κs) R;
   }
@@ -136,7 +136,7 @@ module _ {M : Type 1} {𝓤 : Ura M} (𝓛 : Logic 𝓤) (T : Ended) (ps : Param
     prf = via 𝓤 _ (pop 𝓛 (‵ ((type_at T.signature.result y.0.0).own_val r (v ∷ []))) (Had ++ Tokens)) (via 𝓤 _ (mono_r 𝓤 (sem 𝓛 ((type_at T.signature.result y.0.0).own_val r (v ∷ []))) (⊢++ 𝓛 Had Tokens)) (ended v fits ens));
   }
 
-abbrev pub Known : {M : Type 1} {𝓤 : Ura M} (𝓛 : Logic 𝓤) → Tables 𝓤 𝓛.H → Name → (T : Ended) → Clauses 𝓤 T → Type 1
+abbrev pub Known : {M : Type 1} {𝓤 : Ura M} (𝓛 : Logic 𝓤) → Tables 𝓤 𝓛.H → Callee → (T : Ended) → Clauses 𝓤 T → Type 1
 Known {𝓤 = 𝓤} 𝓛 𝓣 f T c = Triple 𝓤 (𝓣.C f) (triple_of 𝓛 T.signature (closing 𝓛 T c))
 
 module _ {M : Type 1} {𝓤 : Ura M} (𝓛 : Logic 𝓤) (T : Ended) (ps : Params T.signature.params T.kept) (c : Clauses 𝓤 T) (f : Fn) (𝓣 : Tables 𝓤 𝓛.H) where
