@@ -6,7 +6,7 @@ use sentence::Said;
 use text::Expected;
 
 // How far the text has been read.
-#[derive(Drop)]
+#[derive(Clone, Copy)]
 pub struct State {
     // the number of the present line, from 1, and how many of its bytes are kept
     pub line: u64,

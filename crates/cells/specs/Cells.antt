@@ -1,6 +1,6 @@
 -- What stands in one cell of a picture: who uses a port, or an instance, in one cycle. (01, Lowering: the timetable; docs/TEXT.md)
 -- Assumes nothing.
-use Rattle.std.specs.Prelude.{ℕ, zero, suc, ◌+◌, Bool, true, false, cond, ◌&&◌, List, get_or, ltb, leb, eqb}
+use Rattle.std.specs.Prelude.{ℕ, zero, suc, ◌+◌, Bool, cond, ◌&&◌, List, get_or, ltb, leb, eqb}
 use Rattle.cells.specs.declared.Cell.{Cell}
 use Rattle.cells.specs.declared.Cell.TheVariants.{Free, First, Next, Several}
 

@@ -4,7 +4,7 @@
 ghost use Rattle.std.specs.Prelude.{◌≡◌, ◌≤◌, ◌<◌, min, length};
 ghost use Rattle.cells.specs.Cells as Cells;
 
-#[derive(Drop)]
+#[derive(Clone, Copy)]
 pub enum Cell {
     Free,
     // this invocation, for the first start or for the next one

@@ -13,7 +13,7 @@ use lib.Dec.{ltb}
 use borrow.Author.Tests.{lt-ltb, le-ltb}
 use Rattle.answers.specs.Answer.{accepted, Counts}
 use Rattle.numbers.specs.Numbers.{Bytes}
-use Rattle.timeline.specs.Design.{Design, built, class, delay, component, input_count, output_count, instance_count, invocation_count, connection_count, input, output, connection, made_of, call, instance, invoked, offset}
+use Rattle.timeline.specs.Design.{Design, built, class, delay, input_count, output_count, instance_count, invocation_count, connection_count, input, output, connection, made_of, call, instance, invoked, offset}
 use Rattle.entry.specs.Records as Records
 use Rattle.entry.specs.Records.{Record, part, records}
 use Rattle.entry.specs.Numbers.{component_number, input_number, output_number, instance_number, invocation_number, connection_number, At, Standing}

@@ -32,6 +32,7 @@ pub fn call_at(file: &[u8], i: usize) -> Call
 }
 
 // The first record from i on, of n, that is no instance.
+#[tactic(auto, using(crate::proofs::Past::instances_go_on, crate::proofs::Past::instances_stop, crate::proofs::Past::instances_end))]
 pub fn past_instances(file: &[u8], i: usize, n: usize) -> usize
     requires { (i ≤ n) × (n ≤ 3968) × (n ≤ 31 * (length file.now / 512)) }
     ensures { result ≡ past_instances file.now (n - i) i }
@@ -47,6 +48,7 @@ pub fn past_instances(file: &[u8], i: usize, n: usize) -> usize
 }
 
 // The record at which component c ends: that of the next component, or where the file stops.
+#[tactic(auto, unfolding(crate::specs::Groups::end_of))]
 pub fn end_of(rows: &[u16], components: usize, records: usize, c: usize) -> usize
     requires { (length rows.now ≡ 320) × (components ≤ 64) × (c < components) }
     ensures { result ≡ end_of rows.now components records c }

@@ -9,7 +9,7 @@ use cells::Cell;
 use marks::Glyph;
 use uses::{Available, Uses};
 
-#[derive(Drop)]
+#[derive(Clone, Copy)]
 pub enum Style {
     Text,
     Svg,
@@ -17,7 +17,7 @@ pub enum Style {
     Count,
 }
 
-#[derive(Drop)]
+#[derive(Clone, Copy)]
 pub struct Page {
     pub fd: i32,
     pub style: Style,
@@ -43,7 +43,7 @@ pub enum Label {
 }
 
 // What a line shows: of this instance, an interval from each use on.
-#[derive(Drop)]
+#[derive(Clone, Copy)]
 pub struct Shown {
     pub instance: u16,
     pub start: u16,

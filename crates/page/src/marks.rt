@@ -1,7 +1,7 @@
 // A cell in three letters.
 use cells::Cell;
 
-#[derive(Drop)]
+#[derive(Clone, Copy)]
 pub struct Glyph {
     pub tens: u8,
     pub ones: u8,

@@ -207,7 +207,7 @@ pub fn named(list: &[u8], first: usize, instance: usize) -> usize {
 }
 
 // Instance and offset of an invocation, and its record; an instance that none has where there is no such invocation.
-#[derive(Drop)]
+#[derive(Clone, Copy)]
 pub struct Use {
     pub instance: usize,
     pub offset: usize,

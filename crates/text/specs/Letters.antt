@@ -1,6 +1,6 @@
 -- The letters of a line of text, and where its words end. (docs/TEXT.md, A line)
 -- Assumes nothing.
-use Rattle.std.specs.Prelude.{ℕ, suc, ◌+◌, ◌*◌, ◌-◌, min, Bool, cond, ◌&&◌, ◌||◌, List, [], ◌∷◌, length, get_or, drop, ltb, leb, eqb}
+use Rattle.std.specs.Prelude.{ℕ, suc, ◌+◌, ◌-◌, min, cond, ◌&&◌, ◌||◌, List, [], ◌∷◌, length, get_or, drop, ltb, leb, eqb}
 
 -- 0 a blank: space, tab or carriage return; 1 a word by itself: `[`, `,` or `)`; 2 the start of a comment, `#`; 3 a letter of a longer word.
 abbrev pub kind_of : ℕ → ℕ

@@ -5,7 +5,7 @@ use crate::letters::{hex, word};
 use words::Word;
 
 // What should have stood at a place of the text.
-#[derive(Drop)]
+#[derive(Clone, Copy)]
 pub enum Expected {
     // all is well so far
     Nothing,
@@ -32,7 +32,7 @@ pub enum Expected {
     Length,
 }
 
-#[derive(Drop)]
+#[derive(Clone, Copy)]
 pub struct Cursor {
     // where the next word is looked for
     pub at: usize,
@@ -42,7 +42,7 @@ pub struct Cursor {
 }
 
 // A number that was read, and the reader behind it.
-#[derive(Drop)]
+#[derive(Clone, Copy)]
 pub struct Field {
     pub value: u64,
     pub next: Cursor,

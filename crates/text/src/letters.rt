@@ -4,7 +4,7 @@ ghost use Rattle.text.specs.Letters.{kind_of, past, word_end};
 ghost use Rattle.text.specs.Letters.{hex as digit};
 
 // A part of a line, from `start` up to `end`.
-#[derive(Drop)]
+#[derive(Clone, Copy)]
 pub struct Span {
     pub start: usize,
     pub end: usize,
@@ -27,6 +27,7 @@ fn kind(b: u8) -> u8
 }
 
 // Past all bytes of one kind, from `at` on.
+#[tactic(auto, using(crate::proofs::Runs::run_on, crate::proofs::Runs::run_stops, crate::proofs::Runs::run_ends))]
 fn past(line: &[u8], at: usize, k: u8) -> usize
     ensures { (result ≡ past line.now at k) × (min at (length line.now) ≤ result) × (result ≤ length line.now) }
 {
@@ -44,6 +45,7 @@ fn past(line: &[u8], at: usize, k: u8) -> usize
 }
 
 // The next word, from `at` on; an empty one at the end of the line or the start of a comment.
+#[tactic(auto, using(crate::proofs::Runs::ends_with_line, crate::proofs::Runs::ends_after_one, crate::proofs::Runs::ends_after_run, crate::proofs::Runs::ends_at_once))]
 pub fn word(line: &[u8], at: usize) -> Span
     ensures { (result.start ≡ past line.now at 0) × (result.end ≡ word_end line.now result.start) × (result.start ≤ result.end) × (result.end ≤ length line.now) }
 {

@@ -6,7 +6,7 @@ ghost use Rattle.std.specs.Prelude.{◌<◌};
 use parts::NONE;
 
 // Of each of up to 64 invocations its instance, its offset and its record; an instance that none has behind the last.
-#[derive(Drop)]
+#[derive(Clone, Copy)]
 pub struct Uses {
     pub instances: [u16; 64],
     pub offsets: [u16; 64],
@@ -14,7 +14,7 @@ pub struct Uses {
 }
 
 // From when to when each invocation finds what it reads.
-#[derive(Drop)]
+#[derive(Clone, Copy)]
 pub struct Available {
     pub from: [u16; 64],
     pub to: [u16; 64],

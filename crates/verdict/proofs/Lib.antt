@@ -5,7 +5,6 @@ pub mod Unpacked
 pub mod Reached
 pub mod Handed
 pub mod Begins
-pub mod Bytes
 pub mod Holding
 pub mod Rows
 pub mod Every

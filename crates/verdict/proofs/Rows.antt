@@ -21,7 +21,7 @@ use Rattle.reader.specs.Rows.{row, row_in, put_row}
 use Rattle.reader.proofs.Class.{class_back}
 use Rattle.component.specs.Wanted.{in_order, gathered}
 use Rattle.verdict.specs.Judgement.{judgement, kept, Filled}
-use Rattle.verdict.specs.Opening.{zeros, numbers, row_of, RowsOf, rows_from, design_rows, opening_rows, Fills}
+use Rattle.verdict.specs.Opening.{zeros, numbers, row_of, RowsOf, rows_from, design_rows, opening_rows}
 use Rattle.verdict.proofs.Passed.{said_few}
 
 set_behind : (l xs : List ℕ) (k v : ℕ) → set (l ++ xs) (length l + k) v ≡ l ++ set xs k v

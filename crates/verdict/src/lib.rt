@@ -17,8 +17,11 @@ use answers::{Counted, Refusal, Verdict, fault};
 use component::{Ended, Progress, Wanted};
 use signatures::Signature;
 
+// So many rows a table has to have: one for each component that a file may have.
+const LEAST_ROWS: usize = 64;
+
 // How many records a file has, and the reading before the first of them.
-#[derive(Drop)]
+#[derive(Clone, Copy)]
 pub struct Begun {
     pub records: usize,
     pub progress: Progress,
@@ -44,7 +47,7 @@ fn not_begun(refusal: Refusal) -> Begun
 fn begin(file: &[u8], rows: usize) -> Begun
     ensures { Starts file.now rows result result.progress.goes }
 {
-    if rows < 64 {
+    if rows < LEAST_ROWS {
         return not_begun(Refusal::at(fault::ROOM, 0));
     }
     match blocks::sound(file) {
@@ -135,7 +138,7 @@ pub fn judge(file: &[u8], table: &mut [Signature]) -> Verdict
 }
 
 // A verdict, and the row of each component of an accepted file, five numbers to a row; what is left over is zero.
-#[derive(Drop)]
+#[derive(Clone, Copy)]
 pub struct Opening {
     pub verdict: Verdict,
     pub rows: [u16; 320],
