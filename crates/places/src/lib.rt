@@ -8,7 +8,7 @@ ghost use Rattle.places.specs.Places.{more as one_more};
 use records::Record;
 
 // How many of each kind stand before: components in the file, arguments in the present invocation, all others in the present component.
-#[derive(Drop)]
+#[derive(Clone, Copy)]
 pub struct Place {
     pub components: u64,
     pub inputs: u64,
