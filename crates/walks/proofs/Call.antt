@@ -16,7 +16,7 @@ use base.Fml.{fat, froom, flft}
 use prog.Wp.{Env, Spot, Tables, spot_of, resolve, write, eval_opds}
 use types.Logic.{Logic, sem}
 use contract.Lifetimes.{Lfts, Shares, toks}
-use types.Kit.{Item, Goal, Post, Soaks, Seq, Step, step, ‵, raw, mean, nth, put, ⋆, ◌⊛◌, some, later, ++⊢, ⊢++, push, pop, runs, ◌$◌, ◌∵◌, !, qed, by, move, use1, use2, split, join, pick, await, frame}
+use types.Kit.{Item, Goal, Post, Soaks, Seq, Step, step, ‵, raw, mean, nth, put, ⋆, ◌⊛◌, some, later, ++⊢, ⊢++, push, pop, runs, ◌$◌, ◌∵◌, !, qed, by, move, use1, use2, split, join, pick, await}
 use types.Run.{Opd, Opds, Finds, Writes, look, init, store, stop, from, load, land}
 use sound.WpLaws.{fm_of, eval_opds_fm, resolve_fm, write_fm}
 use denote.RattleType.{RattleType, Denots, Valss, owns}
@@ -31,7 +31,6 @@ use denote.Triple.Bound.{Bound, passed}
 use denote.Triple.Spec.{triple_of}
 use denote.Triple.End.{Kepts, Fins, lasts_of}
 use denote.Triple.Clauses.{Ended, Clauses, Lasts, at_exit, lasts, closing}
-use denote.Triple.Walked.{says}
 
 module _ {M : Type 1} (𝓤 : Ura M) where
   abbrev pub tokens : (n : ℕ) → Lfts n → Shares n → List (Item 𝓤)
@@ -78,7 +77,7 @@ module _ {M : Type 1} {𝓤 : Ura M} (𝓛 : Logic 𝓤) where
 
     last_out : {D : Type 0} (e : Exit D) (x : D) (w : Last e x) (Γ : List (Item 𝓤)) → ent 𝓤 (sep 𝓤 (sem 𝓛 (left e x w)) (⋆ 𝓛 Γ)) (⋆ 𝓛 (last_of 𝓤 e x w Γ))
     last_out unchanged x w Γ = snd∗ 𝓤 (emp 𝓤) (⋆ 𝓛 Γ)
-    last_out (leaves L l S s) x w Γ = push 𝓛 (‵ (l x w)) Γ
+    last_out (leaves L l S s r₀) x w Γ = push 𝓛 (‵ (l x w)) Γ
 
     lasts_out : {n : ℕ} (κs : Lfts n) (ss : List (Slot n)) (ks : Kepts ss) (a : Denots (types_at ss κs)) (ws : Fins κs ss ks a) → ent 𝓤 (sem 𝓛 (lasts_of κs ss ks a ws)) (⋆ 𝓛 (last_values 𝓤 κs ss ks a ws))
     lasts_out κs [] ks a ws = id⊢ 𝓤 (emp 𝓤)

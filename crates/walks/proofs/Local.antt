@@ -3,7 +3,7 @@
 --     spells_whole     `_a = &_p; _b = {_a, n}`: the array in local p is spelled as a slice in local b
 --     lends_array      the array in local k is lent, for a lifetime ν that is made here: the callee has the slice and the whole token, and the lender's part stands in the array's place
 --     array_home       ν is ended, and the array stands in its place at the last list that the callee has told
---     lends_array_shared, array_shared_home        the same of a `&[T]`: the array stands in its place at the list that was lent
+--     lends_array_shared, array_shared_home        the same of a `&[T]`, given that sharing T asks for no lifetime: the array stands in its place at the list that was lent
 -- Assumes `Logic`.
 use mathlib.Core.Path.{◌≡◌, refl, sym, subst}
 use Prim.Native.Nat.{ℕ, suc, ◌^◌}
@@ -15,18 +15,19 @@ use base.Fraction.{full_share}
 use mir.Syntax.{Ty, Lifetime, Mutability, Opd as Operand, Body, place, copy, int, addr_of, aggregate, repeat, seq, assign, w64, ty_ref, ty_array}
 use mir.Val.{Val, vptr}
 use base.Logic.{ent, sep, via, mono_r}
-use base.Fml.{GName, Fml, fat, froom, flft, flent}
+use base.Fml.{Incl-refl, GName, Fml, fat, froom, flft, flent}
 use prog.Wp.{Env, Calls, Loops, spot_of}
 use types.Logic.{Logic}
-use types.Kit.{Item, Goal, Post, Soaks, Seq, Step, step, mean, nth, del, put, pull, fill, push, pop, ++⊢, ⊢++, ⋆, ‵, ◌⊛◌, some, later, runs, ◌$◌, move, drop, use1, use3, split, pick, rewrite, fsplit, fpick, await}
+use types.Kit.{Item, Goal, Post, Soaks, Seq, Step, step, mean, nth, del, put, pull, fill, push, pop, ++⊢, ⊢++, ⋆, ‵, ◌⊛◌, some, later, runs, ◌$◌, move, drop, use1, use2, use3, split, pick, rewrite, fsplit, fpick, await}
 use types.Part.{agg, rep}
 use types.Run.{Opd, look, init, stop, load, lit, and_then, no_more, addr, assigns}
 use types.SemTy.{cells, Arr}
 use types.Share.{arr_parts}
 use types.Tokens.{lft_new, lft_end, lent_back}
 use denote.RattleType.{RattleType}
+use denote.Shares.{SharesAsFrom}
 use denote.Laws.{Is, Makes, Lawful, shows}
-use denote.Memory.{cell_at, lone, part_at, mem, shares, part_of}
+use denote.Memory.{cell_at, lone, part_at, mem, shares, shared_of, part_of}
 use denote.Array.{Array, array_val, Array-Typed}
 use denote.ArrayMemory.{Single, Array-whole}
 use denote.Ref.{MutBor}
@@ -35,6 +36,7 @@ use denote.Lend.{Held, lends_slice, slice_back, lends_shr_slice}
 use denote.Steps.{peeks}
 use Rattle.walks.proofs.Lent.{is_array, array_parts, array_cells, cells_parts}
 use Rattle.walks.proofs.Passing.{found}
+use Rattle.walks.proofs.Shared.{none_within, shared_list}
 
 -- what a slice at (b, 0) denotes, under the name δ at the list l
 abbrev slice : {D : Type 0} → ℕ → GName → List D → MutBor (List D)
@@ -79,14 +81,15 @@ module _ {M : Type 1} {𝓤 : Ura M} {𝓛 : Logic 𝓤} {K : Type 0} {Γ : List
   array_home t s R k zs {n} {b} {ν} {δ} e c =
       lft_end t s $ out_of (suc (suc k)) e $ move t (1 ∷ 0 ∷ []) $ use3 𝓛 (later (‵ ((Arr (mem R) n).own_at zs b 0))) (slice_back 𝓛 R (ν ∷ []) δ zs n b 0) $ await t s $ use1 𝓛 (‵ (elements R n zs b)) (cells_parts 𝓛 R n b zs) $ stands Γ t R k zs n b c
 
-  pub lends_array_shared : K → Soaks G → (R : RattleType) → Single R.mir → Makes 𝓛 R (Is R) → (ℓ : Lifetime) (k : ℕ) (ys : List R.Denot) {n b : ℕ} {v : Val} → nth 𝓛 k Γ ≡ ‵ (fat full_share (ty_array (lone R.mir) n) b 0 v) → Is (Array R n) ys (v ∷ []) → Room R n
-      → ((ν : ℕ) (δ : GName) → Seq K 𝓛 (‵ ((ShrSlice ℓ (ν ∷ []) R).own_val (slice b δ ys) (slice_val (b, 0) n ∷ [])) ∷ ‵ (flft (ν ∷ []) full_share) ∷ put 𝓛 k (‵ (flent (ν ∷ []) (elements R n ys b))) Γ) G)
+  pub lends_array_shared : K → Soaks G → (R : RattleType) → SharesAsFrom 𝓛 full_share R (shared_of R) [] → Single R.mir → Makes 𝓛 R (Is R) → (ℓ : Lifetime) (k : ℕ) (ys : List R.Denot) {n b : ℕ} {v : Val} → nth 𝓛 k Γ ≡ ‵ (fat full_share (ty_array (lone R.mir) n) b 0 v) → Is (Array R n) ys (v ∷ []) → Room R n
+      → ((ν : ℕ) → Seq K 𝓛 (‵ ((ShrSlice ℓ (ν ∷ []) R).own_val (shared_list R b 0 ys) (slice_val (b, 0) n ∷ [])) ∷ ‵ (flft (ν ∷ []) full_share) ∷ put 𝓛 k (‵ (flent (ν ∷ []) (elements R n ys b))) Γ) G)
       → Seq K 𝓛 Γ G
-  lends_array_shared t s R one mk ℓ k ys {n} {b} {v} e is room c =
+  lends_array_shared t s R sh one mk ℓ k ys {n} {b} {v} e is room c =
       out_of k e $ use1 𝓛 (‵ (elements R n ys b)) (array_parts 𝓛 R one mk n b ys v is) $ rewrite t 0 (λ (m : ℕ). ‵ (elements R m ys b)) (sym is.1.0.1) refl $ lft_new t s (λ ν. move t (1 ∷ []) $
-      use1 𝓛 (later (some (λ (δ : GName). ‵ ((ShrSlice ℓ (ν ∷ []) R).own_val (slice b δ ys) (slice_val (b, 0) (length ys) ∷ [])) ⊛ ‵ (flent (ν ∷ []) (elements R (length ys) ys b))))) (lends_shr_slice 𝓛 R ℓ (ν ∷ []) full_share ys b 0 (subst (Room R) (sym is.1.0.1) room)) $ await t s $ pick t (λ δ. split t $
-      rewrite t 0 (λ (m : ℕ). ‵ ((ShrSlice ℓ (ν ∷ []) R).own_val (slice b δ ys) (slice_val (b, 0) m ∷ []))) is.1.0.1 refl $ rewrite t 1 (λ (m : ℕ). ‵ (flent (ν ∷ []) (elements R m ys b))) is.1.0.1 refl $
-      move t (0 ∷ 2 ∷ 1 ∷ []) $ back_to k (‵ (flent (ν ∷ []) (elements R n ys b))) (‵ ((ShrSlice ℓ (ν ∷ []) R).own_val (slice b δ ys) (slice_val (b, 0) n ∷ [])) ∷ ‵ (flft (ν ∷ []) full_share) ∷ []) Γ $ c ν δ))
+      use2 𝓛 (later ((‵ ((ShrSlice ℓ (ν ∷ []) R).own_val (shared_list R b 0 ys) (slice_val (b, 0) (length ys) ∷ [])) ⊛ ‵ (flent (ν ∷ []) (elements R (length ys) ys b))) ⊛ ‵ (flft (ν ∷ []) full_share)))
+      (lends_shr_slice 𝓛 R ℓ (ν ∷ []) full_share ys b 0 (subst (Room R) (sym is.1.0.1) room) [] sh ((ν ∷ [], full_share) ∷ []) (none_within (ν ∷ [])) (Incl-refl (ν ∷ []))) $ await t s $ split t $ split t $
+      rewrite t 0 (λ (m : ℕ). ‵ ((ShrSlice ℓ (ν ∷ []) R).own_val (shared_list R b 0 ys) (slice_val (b, 0) m ∷ []))) is.1.0.1 refl $ rewrite t 1 (λ (m : ℕ). ‵ (flent (ν ∷ []) (elements R m ys b))) is.1.0.1 refl $
+      move t (0 ∷ 2 ∷ 1 ∷ []) $ back_to k (‵ (flent (ν ∷ []) (elements R n ys b))) (‵ ((ShrSlice ℓ (ν ∷ []) R).own_val (shared_list R b 0 ys) (slice_val (b, 0) n ∷ [])) ∷ ‵ (flft (ν ∷ []) full_share) ∷ []) Γ $ c ν)
 
   pub array_shared_home : K → Soaks G → (R : RattleType) (k : ℕ) (ys : List R.Denot) (n b : ℕ) {ν : ℕ} → nth 𝓛 k Γ ≡ ‵ (flent (ν ∷ []) (elements R n ys b))
       → ((v : Val) → Is (Array R n) ys (v ∷ []) → Seq K 𝓛 (put 𝓛 k (‵ (fat full_share (ty_array (lone R.mir) n) b 0 v)) Γ) G)

@@ -2,7 +2,7 @@
 --     turn             the first m entries of the context go to its end, so that the locals come first again
 --     told             what a callee leaves of a `&mut [T]`: its last list, and that it is as long as the list that was passed
 --     spells_again     `_a = &*_p.0; _b = {_a, _p.1}`: the slice in local p is spelled again in local b
---     lends_out        a `&κ mut [T]` with κ's token is lent as a `&ν [T]`, for a lifetime ν that is made here: the callee has the slice and the whole token, the holder keeps `LentShared`
+--     lends_out        of plain data, a `&κ mut [T]` with κ's token is lent as a `&ν [T]`, for a lifetime ν that is made here: the callee has the slice and the whole token, the holder keeps `LentShared`
 --     comes_in         ν is ended, and the slice stands as it did, with κ's token
 -- Assumes `Logic`.
 use mathlib.Core.Path.{◌≡◌, refl, sym, ap, subst}
@@ -14,17 +14,19 @@ use base.Fraction.{full_share}
 use mir.Syntax.{Ty, Lifetime, Mutability, Step as PStep, Body, place, field, deref, copy, addr_of, aggregate, seq, assign, w64, ty_int, ty_ref}
 use mir.Val.{vint, vptr, vstruct, vnil, vcons}
 use base.Logic.{via, comm∗}
-use base.Fml.{Fml, fsep, feq, Lft, GName, Share, fat, froom, flft}
+use base.Fml.{Incl-refl, Fml, fsep, feq, Lft, GName, Share, fat, froom, flft}
 use prog.Wp.{Env, Spot, Calls, Loops, spot_of}
 use types.Logic.{Logic}
-use types.Kit.{Item, Goal, Post, Soaks, Seq, Step, step, ‵, nth, put, ◌⊛◌, some, later, ++⊢, ⊢++, ⋆, runs, ◌$◌, move, use2, split, pick, rewrite, fsplit, feq_l, await}
+use types.Kit.{Item, Goal, Post, Soaks, Seq, Step, step, ‵, nth, put, ◌⊛◌, later, ++⊢, ⊢++, ⋆, runs, ◌$◌, move, use2, use3, split, rewrite, fsplit, feq_l, await}
 use types.Part.{Part, whole, sub, look_in, agg}
 use types.Run.{Reads, Walks, Finds, look, init, stop, hop, fld, from, load, and_then, no_more, addr, assigns}
 use types.Tokens.{lft_new, lft_end}
 use denote.RattleType.{RattleType}
+use denote.Shares.{SharesAsFrom}
+use denote.Memory.{shared_of}
 use denote.Ref.{MutBor}
 use denote.Slice.{slice_ty, slice_val, MutSlice, ShrSlice, Room}
-use Rattle.walks.proofs.Shared.{LentShared, lends_shared, shared_back}
+use Rattle.walks.proofs.Shared.{none_within, shared_list, LentShared, lends_shared, shared_back}
 
 -- what a slice at (b, o) denotes, under the name δ at the list l
 abbrev slice : {D : Type 0} → ℕ → ℕ → GName → List D → MutBor (List D)
@@ -54,13 +56,14 @@ module _ {M : Type 1} {𝓤 : Ura M} {𝓛 : Logic 𝓤} {K : Type 0} {Γ : List
   pub told : K → {P : Fml} {X : Type 0} {x y : X} → (x ≡ y → Seq K 𝓛 (‵ P ∷ Γ) G) → Seq K 𝓛 (‵ (fsep P (feq X x y)) ∷ Γ) G
   told t k = fsplit t $ move t (1 ∷ []) $ feq_l t k
 
-  pub lends_out : K → Soaks G → (R : RattleType) (ℓ ℓ' : Lifetime) {κ : Lft} {q : Share} {γ : GName} {b o : ℕ} (l : List R.Denot) {n : ℕ} → length l ≡ n
-      → ((ν : ℕ) (δ : GName) → Seq K 𝓛 (‵ ((ShrSlice ℓ' (ν ∷ []) R).own_val (slice b o δ l) (slice_val (b, o) n ∷ [])) ∷ ‵ (flft (ν ∷ []) full_share) ∷ ‵ (LentShared R κ (ν ∷ []) q γ b o l) ∷ Γ) G)
+  pub lends_out : K → Soaks G → (R : RattleType) → SharesAsFrom 𝓛 full_share R (shared_of R) [] → (ℓ ℓ' : Lifetime) {κ : Lft} {q : Share} {γ : GName} {b o : ℕ} (l : List R.Denot) {n : ℕ} → length l ≡ n
+      → ((ν : ℕ) → Seq K 𝓛 (‵ ((ShrSlice ℓ' (ν ∷ []) R).own_val (shared_list R b o l) (slice_val (b, o) n ∷ [])) ∷ ‵ (flft (ν ∷ []) full_share) ∷ ‵ (LentShared R κ (ν ∷ []) q γ b o l) ∷ Γ) G)
       → Seq K 𝓛 (‵ ((MutSlice ℓ κ R).own_val (slice b o γ l) (slice_val (b, o) n ∷ [])) ∷ ‵ (flft κ q) ∷ Γ) G
-  lends_out t s R ℓ ℓ' {κ} {q} {γ} {b} {o} l e k =
+  lends_out t s R sh ℓ ℓ' {κ} {q} {γ} {b} {o} l e k =
       rewrite t 0 (λ (m : ℕ). ‵ ((MutSlice ℓ κ R).own_val (slice b o γ l) (slice_val (b, o) m ∷ []))) (sym e) refl $ lft_new t s (λ ν. move t (1 ∷ 2 ∷ []) $
-      use2 𝓛 (later (some (λ (δ : GName). ‵ ((ShrSlice ℓ' (ν ∷ []) R).own_val (slice b o δ l) (slice_val (b, o) (length l) ∷ [])) ⊛ ‵ (LentShared R κ (ν ∷ []) q γ b o l)))) (lends_shared R κ (ν ∷ []) q γ b o 𝓛 ℓ ℓ' l) $ await t s $ pick t (λ δ. split t $
-      rewrite t 0 (λ (m : ℕ). ‵ ((ShrSlice ℓ' (ν ∷ []) R).own_val (slice b o δ l) (slice_val (b, o) m ∷ []))) e refl $ move t (0 ∷ 2 ∷ 1 ∷ []) $ k ν δ))
+      use3 𝓛 (later ((‵ ((ShrSlice ℓ' (ν ∷ []) R).own_val (shared_list R b o l) (slice_val (b, o) (length l) ∷ [])) ⊛ ‵ (LentShared R κ (ν ∷ []) q γ b o l)) ⊛ ‵ (flft (ν ∷ []) full_share)))
+      (lends_shared R κ (ν ∷ []) q γ b o 𝓛 ℓ ℓ' l [] sh ((ν ∷ [], full_share) ∷ []) (none_within (ν ∷ [])) (Incl-refl (ν ∷ []))) $ await t s $ split t $ split t $
+      rewrite t 0 (λ (m : ℕ). ‵ ((ShrSlice ℓ' (ν ∷ []) R).own_val (shared_list R b o l) (slice_val (b, o) m ∷ []))) e refl $ move t (0 ∷ 2 ∷ 1 ∷ []) $ k ν)
 
   pub comes_in : K → Soaks G → (R : RattleType) (ℓ : Lifetime) {κ : Lft} {q : Share} {γ : GName} {ν b o : ℕ} (l : List R.Denot) {n : ℕ} → length l ≡ n → Room R n
       → Step K 𝓛 (‵ ((MutSlice ℓ κ R).own_val (slice b o γ l) (slice_val (b, o) n ∷ [])) ∷ ‵ (flft κ q) ∷ Γ) G (‵ (flft (ν ∷ []) full_share) ∷ ‵ (LentShared R κ (ν ∷ []) q γ b o l) ∷ Γ) G

@@ -1,29 +1,39 @@
 -- A `&κ mut [T]` that is lent as a `&κ' [T]` for a call, and comes back as it was.
 --     LentShared       what the holder keeps while the slice is lent: the lender's part at κ', and its own borrow at κ, open, with both halves of its ghost variable
---     lends_shared     own (the `&κ mut [T]` ((b, o), γ, ys)) ∗ [κ]_q  ⊢ ⇛ ∃ γ₁. own (the `&κ' [T]` ((b, o), γ₁, ys)) ∗ LentShared
+--     lends_shared     given that T can be shared, with the tokens that this asks for:  own (the `&κ mut [T]` ((b, o), γ, ys)) ∗ [κ]_q  ⊢ ⇛ own (the `&κ' [T]` ((b, o), ys)) ∗ LentShared
 --     shared_back      given `Room`:  [†κ'] ∗ LentShared  ⊢ ⇛ (own (the `&κ mut [T]` ((b, o), γ, ys)) ∗ [κ]_q)
 -- Assumes `Logic`.
 use mathlib.Core.Path.{refl}
 use Prim.Native.Nat.{ℕ}
-use mathlib.Core.List.{List, [], ◌∷◌}
+use mathlib.Core.List.{List, [], ◌∷◌, not-mem-nil}
 use lib.ListN.{length}
 use seplogic.Ra.Ura.{Ura}
 use base.Fraction.{full_share}
 use mir.Syntax.{Lifetime}
 use mir.Val.{Val}
-use base.Logic.{ent, sep, ex}
-use base.Fml.{Lft, GName, Share, Fml, fsep, flft, fdead, fobs, fauth, flent, fobor}
-use types.Logic.{Logic, sem}
-use types.Kit.{‵, ◌⊛◌, some, later, ◌$◌, ◌∵◌, !, qed, move, use1, drop, split, pick, fsplit, fjoin, feq_i, frame, await, updating, now as at_once, show, done}
+use base.Logic.{ent, sep}
+use base.Fml.{Lft, Incl, GName, Share, Fml, fsep, flft, fdead, fobs, fauth, flent, fobor}
+use ghost.Rules.{Toks, span}
+use types.Logic.{Logic, sem, lfts}
+use types.Kit.{‵, ◌⊛◌, later, ◌$◌, ◌∵◌, !, qed, move, use2, drop, split, join, raw, fsplit, fjoin, feq_i, await, updating, now as at_once, done}
 use types.Tokens.{lent_back}
 use types.Share.{arr_parts}
 use denote.RattleType.{RattleType}
+use denote.Shares.{SharesAsFrom}
 use denote.Shadow.{pure_l, pure_i}
-use denote.Memory.{shares}
-use denote.Ref.{MutBor}
-use denote.Slice.{slice_val, MutSlice, ShrSlice, heres, Room, shr_slice_at, mut_slice_at, coded_holeys}
+use denote.Memory.{shares, shared_of}
+use denote.Ref.{Bor, MutBor}
+use denote.Slice.{slice_val, MutSlice, ShrSlice, heres, Room, mut_slice_at, coded_holeys}
 use denote.Lend.{Held, lends_shr_slice}
 use denote.Index.{opens_slice, closes_slice}
+
+-- Every lifetime is within none at all.
+pub none_within : (κ : Lft) → Incl κ []
+none_within κ a m = absurd (not-mem-nil m)
+
+-- What a shared slice at (b, o) denotes at a list.
+abbrev pub shared_list : (R : RattleType) (b o : ℕ) → List R.Denot → Bor (List R.Denot)
+shared_list R b o ys = record { ref_ptr = (b, o); now = ys }
 
 module _ (R : RattleType) (κ κ' : Lft) (q : Share) (γ : GName) (b o : ℕ) where
   abbrev at_list : GName → List R.Denot → MutBor (List R.Denot)
@@ -38,15 +48,17 @@ module _ (R : RattleType) (κ κ' : Lft) (q : Share) (γ : GName) (b o : ℕ) wh
     abbrev vals : List Val
     vals = slice_val (b, o) (length ys) ∷ []
 
-    pub lends_shared : ent 𝓤 (sep 𝓤 (sem 𝓛 ((MutSlice ℓ κ R).own_val (at_list γ ys) vals)) (A.lft κ q))
-        (H.⇛ (ex 𝓤 (λ (γ₁ : GName). sep 𝓤 (sem 𝓛 ((ShrSlice ℓ' κ' R).own_val (at_list γ₁ ys) vals)) (sem 𝓛 (LentShared ys)))))
-    lends_shared =
-        qed 𝓛 (‵ ((MutSlice ℓ κ R).own_val (at_list γ ys) vals) ∷ ‵ (flft κ q) ∷ []) ∵ updating ! $ fsplit ! $ pure_l ! (shr_slice_at R (at_list γ ys) vals) (λ p. fsplit ! $ opens_slice ! tt R ys b o $
-        feq_i ! ℕ (length ys) (length ys) refl $ fjoin ! $
-        use1 𝓛 (later (some (λ (γ₁ : GName). ‵ ((ShrSlice ℓ' κ' R).own_val (at_list γ₁ ys) vals) ⊛ ‵ (flent κ' ((arr_parts (shares R) (length ys)).part full_share ys b o))))) (lends_shr_slice 𝓛 R ℓ' κ' full_share ys b o p.1) $ await ! tt $ pick ! (λ γ₁. split ! $
-        -- [the shared slice; the lender's part at κ'; the open borrow at κ; obs γ; auth γ]
-        at_once ! $ show ! (λ (γ' : GName). sep 𝓤 (sem 𝓛 ((ShrSlice ℓ' κ' R).own_val (at_list γ' ys) vals)) (sem 𝓛 (LentShared ys))) γ₁ $ frame ! $
-        move ! (2 ∷ 3 ∷ []) $ fjoin ! $ move ! (2 ∷ 0 ∷ []) $ fjoin ! $ move ! (1 ∷ 0 ∷ []) $ fjoin ! $ done !))
+    -- The lifetimes whose tokens are shown are those that sharing the elements and the new slice ask for: of plain data, κ' alone.
+    pub lends_shared : (l : Lft) → SharesAsFrom 𝓛 full_share R (shared_of R) l → (ts : Toks) → Incl (span ts) l → Incl (span ts) κ'
+        → ent 𝓤 (sep 𝓤 (sem 𝓛 ((MutSlice ℓ κ R).own_val (at_list γ ys) vals)) (sep 𝓤 (A.lft κ q) (lfts 𝓛 ts)))
+        (H.⇛ (sep 𝓤 (sep 𝓤 (sem 𝓛 ((ShrSlice ℓ' κ' R).own_val (shared_list R b o ys) vals)) (sem 𝓛 (LentShared ys))) (lfts 𝓛 ts)))
+    lends_shared l s ts inc sp =
+        qed 𝓛 (‵ ((MutSlice ℓ κ R).own_val (at_list γ ys) vals) ∷ ‵ (flft κ q) ∷ raw (lfts 𝓛 ts) ∷ []) ∵ updating ! $ fsplit ! $ pure_l ! (mut_slice_at R (at_list γ ys) vals) (λ p. fsplit ! $ opens_slice ! tt R ys b o $
+        feq_i ! ℕ (length ys) (length ys) refl $ fjoin ! $ move ! (0 ∷ 4 ∷ []) $
+        use2 𝓛 (later ((‵ ((ShrSlice ℓ' κ' R).own_val (shared_list R b o ys) vals) ⊛ ‵ (flent κ' ((arr_parts (shares R) (length ys)).part full_share ys b o))) ⊛ raw (lfts 𝓛 ts)))
+        (lends_shr_slice 𝓛 R ℓ' κ' full_share ys b o p.1 l s ts inc sp) $ await ! tt $ split ! $ split ! $
+        -- [the shared slice; the lender's part at κ'; the tokens; the open borrow at κ; obs γ; auth γ]
+        at_once ! $ move ! (4 ∷ 5 ∷ []) $ fjoin ! $ move ! (4 ∷ 0 ∷ []) $ fjoin ! $ move ! (2 ∷ 0 ∷ []) $ fjoin ! $ move ! (1 ∷ 0 ∷ []) $ join ! $ join ! $ done !)
 
     pub shared_back : Room R (length ys) → ent 𝓤 (sep 𝓤 (A.dead κ') (sem 𝓛 (LentShared ys))) (H.⇛ (sep 𝓤 (sem 𝓛 ((MutSlice ℓ κ R).own_val (at_list γ ys) vals)) (A.lft κ q)))
     shared_back room =
