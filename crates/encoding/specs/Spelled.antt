@@ -1,8 +1,8 @@
 -- The sixteen bytes that a record is written as. (01, Records)
 -- Assumes nothing.
-use Rattle.std.specs.Prelude.{ℕ, List, [], ◌∷◌, ◌++◌, replicate}
+use Rattle.std.specs.Prelude.{ℕ, List, ◌∷◌, ◌++◌, replicate}
 use Rattle.timeline.specs.Design.{Port, Source, own, output_of, constant}
-use Rattle.entry.specs.Records.{Record, wrong, component, part, input, output, instance, invocation, argument, connection}
+use Rattle.entry.specs.Records.{Record, wrong, component, part}
 use Rattle.numbers.specs.Numbers.{bytes}
 use Rattle.records.specs.Encoded.{encoded}
 

@@ -60,6 +60,7 @@ fn with_port(side: u8, p: Port) -> [u8; 16]
 }
 
 // The sixteen bytes of a record; zeros, which are no record either, for a wrong one.
+#[tactic(auto, unfolding(records::specs::Encoded::encoded))]
 pub fn encode(x: Record) -> [u8; 16]
     ensures { result ≡ spelled (Says.says x) }
 {

@@ -3,7 +3,6 @@
 -- Assumes nothing.
 use Rattle.std.specs.Prelude.{ℕ, ◌+◌, cond, ltb}
 use Rattle.records.specs.declared.Record.{Record}
-use Rattle.records.specs.declared.Record.TheVariants as Record
 use Rattle.places.specs.declared.Place.{Place}
 
 -- No list has so many records that this stops at its end.
