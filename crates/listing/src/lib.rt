@@ -47,7 +47,8 @@ fn list_opened(
     );
     let n = rows[asked];
     if fits(n, units[asked], out.len()) {
-        if n == 0 {
+        let empty = n == 0;
+        if empty {
             return Written::Done(0);
         }
         expansion::write(&noted, &ends, asked, 8 * index(n), out);

@@ -4,7 +4,7 @@ use records::{Port, Record};
 
 // Of a record: the record of its component, and that component's number; the number of the invocation that it is or belongs to;
 // for an argument or a connection its own number.
-#[derive(Drop)]
+#[derive(Clone, Copy)]
 pub struct Standing {
     pub record: usize,
     pub first: usize,
