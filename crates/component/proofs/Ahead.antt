@@ -1,16 +1,14 @@
 -- How the light look at the instances ahead goes on and ends, and that it sees what the records say.
 -- Assumes nothing.
-use Prim.Native.Nat.{ℕ, zero, suc, ◌+◌, ◌-◌, ◌<◌, ◌≤◌}
-use mathlib.Core.Bool.{Bool, true, false, cond, not, ◌||◌}
-use mathlib.Core.Path.{◌≡◌, refl, sym, ap, ◌∙◌}
-use mathlib.Core.List.{List, [], ◌∷◌, ◌++◌, append_assoc, append-nil}
+use Prim.Native.Nat.{ℕ, suc, ◌+◌, ◌-◌, ◌<◌, ◌≤◌}
+use mathlib.Core.Bool.{Bool, true, false, not, ◌||◌}
+use mathlib.Core.Path.{◌≡◌, ap, ◌∙◌}
+use mathlib.Core.List.{List, [], ◌∷◌}
 use mathlib.Core.Logic.{◌≢◌}
 use native.Mathlib.Omega.{arith}
 use native.Mathlib.Numerals.{add-one}
 use lib.Dec.{eqb, leb}
-use lib.ListN.{length, get_or, set, take}
-use lib.Seq.{take-suc-set, length-take-le, get_or-take}
-use borrow.Author.Tests.{eq-eqb, ne_eqb, lt-leb, leb-false}
+use borrow.Author.Tests.{eq-eqb, ne_eqb, lt-leb}
 use Rattle.numbers.specs.Numbers.{Bytes}
 use Rattle.timeline.specs.Design.{Port}
 use Rattle.entry.specs.Records.{part, input, output, instance}

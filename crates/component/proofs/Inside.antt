@@ -1,12 +1,10 @@
 -- The invariant of the loop over one component's records, "what is left gives the whole", and how each record carries it on.
 -- Assumes nothing.
 use Prim.Native.Nat.{ℕ, zero, suc, ◌+◌, ◌-◌, ◌≤◌, ◌<◌}
-use mathlib.Core.Bool.{true}
 use mathlib.Core.Path.{◌≡◌, refl, sym, subst}
 use mathlib.Core.List.{List}
 use native.Mathlib.Omega.{arith}
 use lib.ListN.{drop, get_or, replicate, get_or-replicate}
-use Rattle.answers.specs.Answer.{refusal}
 use Rattle.reading.specs.Reader.{Row}
 use Rattle.order.specs.Seen.{seen, closed}
 use Rattle.reader.specs.declared.Reader.{Reader}
@@ -19,10 +17,6 @@ use Rattle.component.specs.Ahead.{ahead}
 use Rattle.component.specs.Component.{Begun, Begins, run, HoldsRows}
 use Rattle.component.proofs.Keeps.{begin_fits}
 use Rattle.component.proofs.Turns.{stay}
-
--- A component's records are about to be read.
-abbrev pub going : Reader → (at count : ℕ) → Progress
-going r at count = record { reader = r; at = at; count = count; refusal = refusal 0 0; goes = true }
 
 -- No argument is due before the first invocation.
 abbrev pub Idle : State → Type 0

@@ -76,6 +76,7 @@ fn nothing() -> Wanted
 }
 
 // The component of the next instance from record `at` on, as far as it can be told before the records are judged.
+#[tactic(auto, using(crate::proofs::Ahead::ahead_port, crate::proofs::Ahead::ahead_stop, crate::proofs::Ahead::ahead_more, crate::proofs::Ahead::ahead_end, crate::proofs::Next::none_sound))]
 fn next_instance(file: &[u8], n: usize, at: usize, place: usize) -> Wanted
     requires { (at ≤ n) × (n ≤ 3968) × (n ≤ 31 * (length file.now / 512)) × (place ≤ 64) }
     ensures { Sound file.now result × (wanted file.now result ≡ ahead file.now (n - at) at place) × (result.goes ≡ true → result.place ≡ place) × (result.place ≤ place) }
@@ -126,6 +127,7 @@ pub fn every_component(count: usize) -> Wanted
 }
 
 // The row that is wanted next.
+#[tactic(auto, using(crate::proofs::Next::ends_there, crate::proofs::Next::component_there, crate::proofs::Next::components_end))]
 pub fn next_wanted(file: &[u8], w: Wanted) -> Wanted
     requires { Sound file.now w }
     ensures { Sound file.now result × (wanted file.now result ≡ later file.now w) × (result.goes ≡ true → result.place ≡ w.place + 1) }
@@ -156,6 +158,7 @@ fn no_refusal() -> Refusal
 
 // What is told of the rule with this number that record p breaks: found after the fact, so that the loop over the records pays
 // nothing for it.
+#[tactic(auto, unfolding(reading::specs::Told::told))]
 fn told(number: u8, p: usize) -> Refusal
     ensures { (v : View) → (x : Said) → result ≡ told v x p number }
 {
