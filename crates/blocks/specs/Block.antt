@@ -1,6 +1,6 @@
 -- One block of 512 bytes, as a list. (01, Blocks)
 -- Assumes nothing.
-use Rattle.std.specs.Prelude.{ℕ, ◌+◌, ◌-◌, ◌*◌, List, [], ◌∷◌, Bool, true, false, ◌&&◌, ◌||◌, get_or, take, drop, leb, eqb}
+use Rattle.std.specs.Prelude.{ℕ, ◌+◌, ◌-◌, ◌*◌, List, Bool, true, false, ◌&&◌, ◌||◌, get_or, take, drop, leb, eqb}
 use Rattle.numbers.specs.Numbers.{number, all_zero}
 use Rattle.fnv.specs.Fnv.{hash}
 

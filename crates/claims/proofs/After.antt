@@ -7,7 +7,7 @@ use mathlib.Core.Path.{◌≡◌, ap, ◌∙◌}
 use lib.ListN.{length}
 use Rattle.answers.specs.declared.Refusal.{Refusal}
 use Rattle.answers.specs.Answer.{Answer, accepted, refused, then, Counts}
-use Rattle.blocks.specs.Sound.{sound_count}
+use Rattle.blocks.proofs.Accepted.{sound_count}
 use Rattle.timeline.specs.Design.{Design}
 use Rattle.verdict.specs.Judgement.{judgement}
 use Rattle.verdict.proofs.Passed.{passed, record_total}

@@ -14,7 +14,7 @@ use Rattle.answers.specs.Answer.{Answer, accepted, refused, then, refusal, Count
 use Rattle.answers.specs.Once.{one_refusal}
 use Rattle.numbers.specs.Numbers.{Bytes}
 use Rattle.blocks.specs.File.{sound}
-use Rattle.blocks.specs.Sound.{sound_count}
+use Rattle.blocks.proofs.Accepted.{sound_count}
 use Rattle.timeline.specs.Design.{built, class, delay}
 use Rattle.timeline.specs.Rules.{Lawful}
 use Rattle.timeline.specs.Uses.{Spaced}

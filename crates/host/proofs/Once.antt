@@ -11,7 +11,7 @@ use Rattle.answers.specs.declared.Refusal.{Refusal}
 use Rattle.answers.specs.Answer.{Answer, accepted, refused, Numbered, Sure, Counts}
 use Rattle.answers.specs.Once.{sure_then}
 use Rattle.blocks.specs.File.{sound, present, record_answer}
-use Rattle.blocks.specs.Sound.{sound_sure}
+use Rattle.blocks.proofs.Accepted.{sound_sure}
 use Rattle.packing.specs.Packed.{list_allowed}
 use Rattle.packing.specs.Answer.{into, pack_answer, unpack_answer}
 use Rattle.timeline.specs.Design.{Design, class}

@@ -7,7 +7,7 @@ use native.Mathlib.Omega.{arith}
 use Rattle.answers.specs.Answer.{Answer, accepted, refused, then}
 use Rattle.answers.specs.Once.{apart}
 use Rattle.blocks.specs.File.{present, sound, record_answer}
-use Rattle.blocks.specs.Sound.{sound_blocks, record_within}
+use Rattle.blocks.proofs.Accepted.{sound_blocks, record_within}
 
 sound_first : (i : ℕ) (a : Answer ℕ) → then a (present i) ≡ accepted tt → (n : ℕ) × (a ≡ accepted n)
 sound_first i (accepted n) e = (n, refl)

@@ -1,7 +1,9 @@
 // When each unit of a component of the file on standard input starts: of the component whose number is the argument, or of the last one.
 #![tactic(auto)]
 
-use libc::{STDERR_FILENO, STDIN_FILENO, STDOUT_FILENO};
+use report::{STDERR, STDIN, STDOUT};
+use std::env::FillError;
+use std::rt::Env;
 use words::Word;
 
 #[derive(Drop)]
@@ -11,37 +13,47 @@ enum Asked {
     Misuse,
 }
 
-fn asked_for() -> Asked {
-    let count = os::arg_count();
-    if count < 2 {
+// Whether argument i was given, however long it is.
+fn is_given(rt: &impl Env, i: usize) -> bool {
+    let mut word = io::buffer();
+    match rt.arg(i, &mut word) {
+        Err(FillError::NotPresent) => false,
+        Err(FillError::TooLong) | Ok(_) => true,
+    }
+}
+
+fn asked_for(rt: &impl Env) -> Asked {
+    if !is_given(rt, 1) {
         return Asked::Last;
     }
-    if 2 < count {
+    if is_given(rt, 2) {
         return Asked::Misuse;
     }
-    // A word that is too long for the buffer comes back empty, which is no number.
     let mut word = io::buffer();
-    let n = os::arg(1, &mut word);
+    let Ok(n) = rt.arg(1, &mut word) else {
+        // It is too long for the buffer.
+        return Asked::Misuse;
+    };
     match words::number(&word[..n]) {
         Word::Number(c) => Asked::Component(c),
         Word::Other => Asked::Misuse,
     }
 }
 
-fn main() {
+fn main(rt: HostRuntime) {
     // One byte more than any file has: whatever is longer is refused for its length.
     let mut file = [0u8; 65537];
-    match asked_for() {
+    match asked_for(&rt) {
         Asked::Misuse => {
-            io::write_all(STDERR_FILENO, b"usage: list [COMPONENT]\n");
+            io::write_all(STDERR, b"usage: list [COMPONENT]\n");
         }
         Asked::Component(c) => {
-            let n = io::read_full(STDIN_FILENO, &mut file);
-            printed::listed(STDOUT_FILENO, &file[..n], c as usize);
+            let n = io::read_full(STDIN, &mut file);
+            printed::listed(STDOUT, &file[..n], c as usize);
         }
         Asked::Last => {
-            let n = io::read_full(STDIN_FILENO, &mut file);
-            printed::last_listed(STDOUT_FILENO, &file[..n]);
+            let n = io::read_full(STDIN, &mut file);
+            printed::last_listed(STDOUT, &file[..n]);
         }
     }
 }

@@ -1,18 +1,17 @@
 -- One block, both ways: a block that is right is the block of its own records, and the block of allowed records is right.
 -- Assumes nothing.
-use Prim.Native.Nat.{ℕ, zero, suc, ◌+◌, ◌-◌, ◌*◌, ◌/◌, ◌^◌, ◌≤◌, ◌<◌}
+use Prim.Native.Nat.{ℕ, ◌+◌, ◌-◌, ◌*◌, ◌/◌, ◌^◌, ◌≤◌, ◌<◌}
 use mathlib.Core.Path.{◌≡◌, refl, ap, sym, ◌∙◌}
 use mathlib.Core.List.{List, [], ◌∷◌, ◌++◌, append_assoc}
 use mathlib.Core.Bool.{Bool, true, ◌||◌}
 use native.Mathlib.Omega.{arith}
-use native.Mathlib.Nat.{add-suc, mod-lt}
-use native.Mathlib.Numerals.{add-one}
+use native.Mathlib.Nat.{mod-lt}
 use lib.ListN.{length, get_or, take, drop, replicate, length-append, length-drop, length-replicate}
-use lib.Seq.{drop-cons, take-add, take_all, drop-drop, length-take-le, take_at, drop_at}
+use lib.Seq.{take-add, take_all, drop-drop, length-take-le, take_at, drop_at}
 use lib.Dec.{eqb}
 use borrow.Author.Tests.{eqb-true, eq-eqb}
-use Rattle.numbers.specs.Numbers.{number, bytes, all_zero, Bytes}
-use Rattle.numbers.specs.Tests.{Between, and_both}
+use Rattle.numbers.specs.Numbers.{number, bytes, Bytes}
+use Rattle.numbers.specs.Tests.{Between}
 use Rattle.numbers.proofs.Zeros.{zeros_are, zeros_pass}
 use Rattle.numbers.proofs.Bytes.{four_list, bytes_number, number_bytes, length_bytes}
 use Rattle.fnv.specs.Fnv.{hash, hash_from, step}

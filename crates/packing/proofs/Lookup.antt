@@ -10,9 +10,9 @@ use lib.Seq.{take-add, take-take, take-nil, drop-drop, drop_at, length-take-le}
 use lib.Dec.{ltb}
 use borrow.Author.Tests.{ltb-true, ltb-false}
 use Rattle.answers.specs.Answer.{then}
-use Rattle.blocks.specs.Block.{part}
 use Rattle.blocks.specs.File.{block_count, block, record_count, record_place, sound, present, record_answer, part_bytes}
-use Rattle.blocks.specs.Sound.{Sound, sound_back}
+use Rattle.blocks.specs.Sound.{Sound}
+use Rattle.blocks.proofs.Accepted.{sound_back}
 use Rattle.packing.specs.Packed.{unpacked}
 use Rattle.packing.proofs.Trips.{whole_blocks, some_blocks, held, stretch, length_block, held_most, held_full, record_count_is, length_unpacked, stretch_within, records_unpacked}
 

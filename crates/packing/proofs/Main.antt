@@ -9,7 +9,7 @@ use lib.ListN.{length, take, drop}
 use Rattle.answers.specs.Answer.{accepted}
 use Rattle.numbers.specs.Numbers.{Bytes}
 use Rattle.blocks.specs.File.{sound, record_count, record_answer, part_bytes}
-use Rattle.blocks.specs.Sound.{sound_blocks, sound_count, sound_back}
+use Rattle.blocks.proofs.Accepted.{sound_blocks, sound_count, sound_back}
 use Rattle.packing.specs.Packed.{Listed, packed, unpacked}
 use Rattle.packing.proofs.Trips as trips
 use Rattle.packing.proofs.Small.{packed_small, unpacked_small}

@@ -14,7 +14,8 @@ use Rattle.numbers.specs.Numbers.{Bytes}
 use Rattle.numbers.proofs.Bytes.{taken, dropped}
 use Rattle.blocks.specs.Block.{part}
 use Rattle.blocks.specs.File.{block_count, block, record_count}
-use Rattle.blocks.specs.Sound.{Right, Sound, in_block}
+use Rattle.blocks.specs.Sound.{Right, Sound}
+use Rattle.blocks.proofs.Accepted.{in_block}
 use Rattle.packing.specs.Packed.{filled, Listed, records_of, blocks_for, packed_to, packed, unpacked_to, unpacked}
 use Rattle.packing.proofs.Block.{length_filled, length_used, block_is, Fits, filled_count, filled_used, filled_header, filled_check}
 

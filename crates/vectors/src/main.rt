@@ -1,16 +1,16 @@
 // Published vectors of 32-bit FNV-1a: each line has the text, its hash, and the hash that the publication gives.
 #![tactic(auto)]
 
-use libc::STDOUT_FILENO;
+use report::STDOUT;
 
 fn vector(text: &[u8], published: u64) {
-    io::write_all(STDOUT_FILENO, b"\"");
-    io::write_all(STDOUT_FILENO, text);
-    io::write_all(STDOUT_FILENO, b"\" ");
-    io::print_hex(STDOUT_FILENO, fnv::hash(text) as u64, 8);
-    io::write_all(STDOUT_FILENO, b" ");
-    io::print_hex(STDOUT_FILENO, published, 8);
-    io::write_all(STDOUT_FILENO, b"\n");
+    io::write_all(STDOUT, b"\"");
+    io::write_all(STDOUT, text);
+    io::write_all(STDOUT, b"\" ");
+    io::print_hex(STDOUT, fnv::hash(text) as u64, 8);
+    io::write_all(STDOUT, b" ");
+    io::print_hex(STDOUT, published, 8);
+    io::write_all(STDOUT, b"\n");
 }
 
 fn main() {

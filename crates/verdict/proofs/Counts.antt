@@ -7,7 +7,7 @@ use native.Mathlib.Omega.{arith}
 use lib.ListN.{length}
 use Rattle.answers.specs.Answer.{accepted}
 use Rattle.blocks.specs.File.{sound, block_count, record_count}
-use Rattle.blocks.specs.Sound.{sound_blocks, sound_count, records_fit, in_block}
+use Rattle.blocks.proofs.Accepted.{sound_blocks, sound_count, records_fit, in_block}
 
 pub count_bounds : (file : List ℕ) (n : ℕ) → sound file ≡ accepted n → (1 ≤ n) × (n ≤ 3968) × (n ≤ 31 * (length file / 512))
 unfolding record_count

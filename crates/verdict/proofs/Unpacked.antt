@@ -7,7 +7,7 @@ use lib.ListN.{take, drop}
 use borrow.Author.Tests.{lt-ltb}
 use Rattle.answers.specs.Answer.{accepted}
 use Rattle.blocks.specs.File.{sound, record_answer}
-use Rattle.blocks.specs.Sound.{sound_blocks}
+use Rattle.blocks.proofs.Accepted.{sound_blocks}
 use Rattle.packing.specs.Packed.{unpacked}
 use Rattle.packing.proofs.Lookup.{record_unpacked}
 use Rattle.look.specs.Look.{sixteen}

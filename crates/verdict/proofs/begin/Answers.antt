@@ -3,7 +3,7 @@ use Rattle.answers.specs.Fault as Fault
 use Rattle.answers.specs.Answer.{refusal, refused}
 use Rattle.answers.specs.Once.{sure_refused}
 use Rattle.blocks.specs.File.{sound}
-use Rattle.blocks.specs.Sound.{sound_sure}
+use Rattle.blocks.proofs.Accepted.{sound_sure}
 use Rattle.verdict.proofs.Begins.{starts_not, judged_short, judged_unsound}
 use Rattle.verdict.proofs.begin.Goals as goal
 
