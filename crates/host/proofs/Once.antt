@@ -8,18 +8,18 @@ use native.Mathlib.Omega.{arith}
 use lib.ListN.{length}
 use lib.Dec.{ltb}
 use Rattle.answers.specs.declared.Refusal.{Refusal}
-use Rattle.answers.specs.Answer.{Answer, accepted, refused, Numbered, Sure, Counts}
+use Rattle.answers.specs.Answer.{Answer, accepted, refused, Sure, Counts}
 use Rattle.answers.specs.Once.{sure_then}
 use Rattle.blocks.specs.File.{sound, present, record_answer}
 use Rattle.blocks.proofs.Accepted.{sound_sure}
 use Rattle.packing.specs.Packed.{list_allowed}
 use Rattle.packing.specs.Answer.{into, pack_answer, unpack_answer}
-use Rattle.timeline.specs.Design.{Design, class}
+use Rattle.timeline.specs.Design.{class}
 use Rattle.entry.proofs.Laws.{verdict_sure}
 use Rattle.reading.specs.Tests.{is_built}
 use Rattle.look.specs.Listed.{records_of}
 use Rattle.timeline.specs.Flat.{row_count, unit_count}
-use Rattle.timetable.specs.Rows.{Row, rows}
+use Rattle.timetable.specs.Rows.{Row}
 use Rattle.verdict.specs.Judgement.{judgement}
 use Rattle.groups.specs.Groups.{design_of}
 use Rattle.lowering.specs.Answer.{component_rows, how_many, lowered, lower_answer}

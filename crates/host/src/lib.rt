@@ -17,7 +17,7 @@ use signatures::Signature;
 
 // `struct dansevik_answer` of the header: what does not apply is zero.
 #[repr(C)]
-#[derive(Drop)]
+#[derive(Clone, Copy)]
 pub struct Reply {
     // 0: accepted; otherwise document 01's number of the refusal
     pub refusal: u64,
