@@ -6,7 +6,6 @@ use mathlib.Core.List.{List, [], ◌∷◌, map}
 use mathlib.Core.Logic.{◌≢◌}
 use lib.ListN.{length, take, drop}
 use Rattle.entry.specs.Records.{Record, wrong}
-use Rattle.entry.specs.Entered.{nothing}
 use Rattle.entry.specs.Asks.{InRange}
 use Rattle.reading.proofs.Ranges.{AllInRange}
 use Rattle.numbers.specs.Numbers.{Bytes}

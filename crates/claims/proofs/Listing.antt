@@ -12,9 +12,9 @@ use lib.Dec.{ltb, leb}
 use borrow.Author.Tests.{lt-ltb, le-ltb, ltb-true, ltb-false, le-leb, leb-true}
 use Rattle.answers.specs.declared.Refusal.{Refusal}
 use Rattle.answers.specs.Fault as Fault
-use Rattle.answers.specs.Answer.{Answer, accepted, refused, then, refusal, left, Counts}
+use Rattle.answers.specs.Answer.{Answer, accepted, refused, then, refusal, Counts}
 use Rattle.answers.specs.Once.{apart, one_refusal}
-use Rattle.numbers.specs.Numbers.{number, bytes}
+use Rattle.numbers.specs.Numbers.{number}
 use Rattle.numbers.specs.Tests.{and_both}
 use Rattle.numbers.proofs.Bytes.{number_bytes}
 use Rattle.timeline.specs.Design.{Design}
@@ -29,6 +29,7 @@ use Rattle.expansion.specs.Bytes.{row_bytes, rows_bytes}
 use Rattle.listing.specs.Answer.{fits, flat_answer, list_answer, flat_left, list_left}
 use Rattle.claims.specs.File.{said_design}
 use Rattle.claims.specs.Starts.{read_start, read_starts, TellTheStarts}
+pub use Rattle.claims.specs.Listing.{Fits, Cannot}
 use Rattle.claims.proofs.After.{same_design, component_count, after_accepted, after_refused}
 use Rattle.claims.proofs.Main as Main
 
@@ -73,36 +74,29 @@ module _ (D : Design) (lawful : Lawful D) (top : ℕ) (there : top < length D) (
 
 -- ---- answers
 module _ (D : Design) (asked room : ℕ) where
-  abbrev pub Fits : Type 0
-  Fits = (row_count D asked ≤ 4096) × (unit_count D asked ≤ 4096) × (8 * row_count D asked ≤ room)
-
   abbrev test : Bool
   test = fits (row_count D asked) (unit_count D asked) room
 
-  fit : test ≡ true → Fits
+  fit : test ≡ true → Fits D asked room
   fit e =
       let p = and_both (leb (row_count D asked) 4096 && leb (unit_count D asked) 4096) (leb (8 * row_count D asked) room) e in
       let q = and_both (leb (row_count D asked) 4096) (leb (unit_count D asked) 4096) p.0 in
       (leb-true _ _ q.0, leb-true _ _ q.1, leb-true _ _ p.1)
 
-  fit_back : Fits → test ≡ true
+  fit_back : Fits D asked room → test ≡ true
   fit_back h = rw (le-leb _ _ h.0, le-leb _ _ h.1, le-leb _ _ h.2)
 
-  flat_accepted : (n : ℕ) → (flat_answer D asked room ≡ accepted n) ↔ ((asked < length D) × Fits × (row_count D asked ≡ n))
+  flat_accepted : (n : ℕ) → (flat_answer D asked room ≡ accepted n) ↔ ((asked < length D) × Fits D asked room × (row_count D asked ≡ n))
   unfolding flat_answer
   flat_accepted n = (to (ltb asked (length D)) refl test refl, λ h. rw (lt-ltb asked (length D) h.0, fit_back h.1, h.2))
     where
       to : (t : Bool) → ltb asked (length D) ≡ t → (u : Bool) → test ≡ u
-          → ◌≡◌ {A = Answer ℕ} (cond t (cond u (accepted (row_count D asked)) (refused (refusal Fault.Room 0))) (refused (refusal Fault.Absent asked))) (accepted n) → (asked < length D) × Fits × (row_count D asked ≡ n)
+          → ◌≡◌ {A = Answer ℕ} (cond t (cond u (accepted (row_count D asked)) (refused (refusal Fault.Room 0))) (refused (refusal Fault.Absent asked))) (accepted n) → (asked < length D) × Fits D asked room × (row_count D asked ≡ n)
       to true e true g h = (ltb-true asked (length D) e, fit g, cc)
       to true e false g h = absurd (apart (sym h))
       to false e u g h = absurd (apart (sym h))
 
-  -- "Then 14, then every other 13."
-  abbrev pub Cannot : Refusal → Type 0
-  Cannot r = ((r ≡ refusal Fault.Absent asked) × (length D ≤ asked)) ⊎ ((r ≡ refusal Fault.Room 0) × (asked < length D) × ¬ Fits)
-
-  flat_refused : (r : Refusal) → (flat_answer D asked room ≡ refused r) ↔ Cannot r
+  flat_refused : (r : Refusal) → (flat_answer D asked room ≡ refused r) ↔ Cannot D asked room r
   unfolding flat_answer
   flat_refused r = (to (ltb asked (length D)) refl test refl, from test refl)
     where
@@ -110,12 +104,12 @@ module _ (D : Design) (asked room : ℕ) where
       no a b = let z : ◌≡◌ {A = Bool} true false = sym a ∙ b in let y : ◌≡◌ {A = ℕ} 0 1 = cc in omega arith
 
       to : (t : Bool) → ltb asked (length D) ≡ t → (u : Bool) → test ≡ u
-          → ◌≡◌ {A = Answer ℕ} (cond t (cond u (accepted (row_count D asked)) (refused (refusal Fault.Room 0))) (refused (refusal Fault.Absent asked))) (refused r) → Cannot r
+          → ◌≡◌ {A = Answer ℕ} (cond t (cond u (accepted (row_count D asked)) (refused (refusal Fault.Room 0))) (refused (refusal Fault.Absent asked))) (refused r) → Cannot D asked room r
       to true e true g h = absurd (apart h)
       to true e false g h = inr (sym (one_refusal h), ltb-true asked (length D) e, λ k. no (fit_back k) g)
       to false e u g h = inl (sym (one_refusal h), ltb-false asked (length D) e)
 
-      from : (u : Bool) → test ≡ u → Cannot r → ◌≡◌ {A = Answer ℕ} (cond (ltb asked (length D)) (cond u (accepted (row_count D asked)) (refused (refusal Fault.Room 0))) (refused (refusal Fault.Absent asked))) (refused r)
+      from : (u : Bool) → test ≡ u → Cannot D asked room r → ◌≡◌ {A = Answer ℕ} (cond (ltb asked (length D)) (cond u (accepted (row_count D asked)) (refused (refusal Fault.Room 0))) (refused (refusal Fault.Absent asked))) (refused r)
       from u g (inl h) = rw (le-ltb asked (length D) h.1, h.0)
       from true g (inr h) = absurd (h.2 (fit g))
       from false g (inr h) = rw (lt-ltb asked (length D) h.1, h.0)

@@ -1,6 +1,6 @@
 -- What is proved of lowering, over the bytes of the file and of the rows. `lowered file lent asked room` is what the contract of `lowering::lower_judged` says of a file, a table of so many lent, the component asked for and so much room; `lower_left` what it leaves in the lent bytes.
 -- Assumes nothing.
-use Prim.Native.Nat.{ℕ, ◌*◌, ◌≤◌, ◌<◌}
+use Prim.Native.Nat.{ℕ, ◌*◌, ◌≤◌}
 use mathlib.Core.Bool.{Bool, true, false, cond, ◌&&◌}
 use mathlib.Core.List.{List}
 use mathlib.Core.Logic.{◌↔◌, ◌⊎◌, inl, inr}
@@ -14,7 +14,7 @@ use Rattle.answers.specs.Fault as Fault
 use Rattle.answers.specs.Answer.{Answer, accepted, refused, then, refusal, Counts}
 use Rattle.answers.specs.Once.{apart, one_refusal}
 use Rattle.numbers.specs.Tests.{and_both}
-use Rattle.timeline.specs.Design.{Design, leaf, built, class}
+use Rattle.timeline.specs.Design.{Design, class}
 use Rattle.reading.specs.Tests.{is_built}
 use Rattle.timetable.specs.Rows.{Row, rows}
 use Rattle.timetable.specs.Bytes.{read_rows}
@@ -25,12 +25,9 @@ use Rattle.lowering.specs.Answer.{component_rows, lowered, lower_left}
 use Rattle.lowering.proofs.Answers.{built_class}
 use Rattle.claims.specs.File.{said_records, said_design}
 use Rattle.claims.specs.Rows.{DoTheTimetable}
+pub use Rattle.claims.specs.Lowering.{Can, Cannot}
 use Rattle.claims.proofs.After.{component_count, after_accepted, after_refused}
 use Rattle.claims.proofs.Main as Main
-
--- The component is there, and built.
-abbrev pub Can : Design → ℕ → Type 0
-Can D c = (c < length D) × (class D c ≡ built)
 
 -- A component of a design, with so much room.
 module _ (D : Design) (c room : ℕ) where
@@ -54,20 +51,17 @@ module _ (D : Design) (c room : ℕ) where
       to true e false g h = let s : rows D c ≡ l = cc in (found e, rw (← s) (ltb-false room size g), s)
       to false e u g h = absurd (apart (sym h))
 
-  abbrev pub Cannot : Refusal → Type 0
-  Cannot r = ((r ≡ refusal Fault.Absent c) × ¬ Can D c) ⊎ ((r ≡ refusal Fault.Room 0) × Can D c × (room < size))
-
-  component_refused : (r : Refusal) → (component_rows D c room ≡ refused r) ↔ Cannot r
+  component_refused : (r : Refusal) → (component_rows D c room ≡ refused r) ↔ Cannot D c room r
   unfolding component_rows
   component_refused r = (to (ltb c (length D) && is_built (class D c)) refl (ltb room size) refl, from (ltb c (length D) && is_built (class D c)) refl)
     where
       to : (t : Bool) → (ltb c (length D) && is_built (class D c)) ≡ t → (u : Bool) → ltb room size ≡ u
-          → ◌≡◌ {A = Answer (List Row)} (cond t (cond u (refused (refusal Fault.Room 0)) (accepted (rows D c))) (refused (refusal Fault.Absent c))) (refused r) → Cannot r
+          → ◌≡◌ {A = Answer (List Row)} (cond t (cond u (refused (refusal Fault.Room 0)) (accepted (rows D c))) (refused (refusal Fault.Absent c))) (refused r) → Cannot D c room r
       to true e true g h = inr (sym (one_refusal h), found e, ltb-true room size g)
       to true e false g h = absurd (apart h)
       to false e u g h = inl (sym (one_refusal h), λ k. let z : ◌≡◌ {A = Bool} true false = sym (found_back k) ∙ e in absurd (let y : ◌≡◌ {A = ℕ} 0 1 = cc in omega arith))
 
-      from : (t : Bool) → (ltb c (length D) && is_built (class D c)) ≡ t → Cannot r
+      from : (t : Bool) → (ltb c (length D) && is_built (class D c)) ≡ t → Cannot D c room r
           → ◌≡◌ {A = Answer (List Row)} (cond t (cond (ltb room size) (refused (refusal Fault.Room 0)) (accepted (rows D c))) (refused (refusal Fault.Absent c))) (refused r)
       from true e (inl h) = absurd (h.1 (found e))
       from false e (inl h) = rw h.0

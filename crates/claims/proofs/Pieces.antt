@@ -6,10 +6,8 @@ use mathlib.Core.List.{List, [], ◌∷◌, ◌++◌}
 use native.Mathlib.Omega.{arith}
 use lib.ListN.{length, take, drop, length-append}
 use lib.Seq.{take-add, take_all, drop-drop, take_at, drop_at}
-use Rattle.answers.specs.Answer.{accepted}
 use Rattle.packing.specs.Packed.{unpacked}
 use Rattle.packing.proofs.Main as Packing
-use Rattle.look.specs.Look.{sixteen}
 use Rattle.verdict.proofs.Unpacked.{sixteen_unpacked}
 use Rattle.look.specs.Listed.{sixteens}
 use Rattle.claims.specs.File.{joined}

@@ -1,3 +1,5 @@
 pub mod File
 pub mod Rows
 pub mod Starts
+pub mod Lowering
+pub mod Listing
