@@ -2,12 +2,12 @@
 #![tactic(auto)]
 
 use answers::{Verdict, Written};
-use libc::{STDIN_FILENO, STDOUT_FILENO};
+use report::{STDIN, STDOUT};
 
 fn main() {
     // One byte more than any file has: whatever is longer is refused for its length.
     let mut file = [0u8; 65537];
-    let n = io::read_full(STDIN_FILENO, &mut file);
+    let n = io::read_full(STDIN, &mut file);
     let mut list = [0u8; 63488];
     match verdict::judge_alone(&file[..n]) {
         Verdict::Accepted {
@@ -19,7 +19,7 @@ fn main() {
                 Written::Done(_) => {}
                 Written::Refused(_) => {}
             }
-            reasons::reason(STDOUT_FILENO, n, &list, r);
+            reasons::reason(STDOUT, n, &list, r);
         }
     }
 }

@@ -3,8 +3,11 @@
 // refusal 14 where it is absent.
 #![tactic(auto)]
 
+ghost use Rattle.std.specs.Prelude.{◌≤◌, length};
+
 use answers::{Refusal, Written, fault};
-use libc::{STDERR_FILENO, STDIN_FILENO, STDOUT_FILENO};
+use report::{STDERR, STDIN, STDOUT};
+use std::env::{Env, FillError};
 use words::Word;
 
 #[derive(Drop)]
@@ -16,44 +19,63 @@ enum Asked {
     Nonsense,
 }
 
-// Whether argument 1 asks for SVG.
-fn svg_asked() -> bool {
+// Puts argument i at the start of `space`, and says how long it is. One that is absent, or too long for it, is an empty word.
+fn argument(rt: &impl Env, i: usize, space: &mut [u8]) -> usize
+    ensures { result ≤ length space.new }
+{
+    match rt.arg(i, space) {
+        Ok(n) => n,
+        Err(_) => 0,
+    }
+}
+
+// Whether there is an argument i.
+fn given(rt: &impl Env, i: usize) -> bool {
     let mut space = io::buffer();
-    let n = os::arg(1, &mut space);
+    match rt.arg(i, &mut space) {
+        Ok(_) => true,
+        Err(FillError::TooLong) => true,
+        Err(FillError::NotPresent) => false,
+    }
+}
+
+// Whether argument 1 asks for SVG.
+fn svg_asked(rt: &impl Env) -> bool {
+    let mut space = io::buffer();
+    let n = argument(rt, 1, &mut space);
     let word = &space[..n];
     check::same(word, b"--svg") | check::same(word, b"svg")
 }
 
 // The component that argument 2 names.
-fn component_asked() -> Asked {
+fn component_asked(rt: &impl Env) -> Asked {
     let mut space = io::buffer();
-    let n = os::arg(2, &mut space);
+    let n = argument(rt, 2, &mut space);
     match words::number(&space[..n]) {
         Word::Number(c) => Asked::Component(c),
         Word::Other => Asked::Nonsense,
     }
 }
 
-fn what_is_asked() -> Asked {
-    let n = os::arg_count();
-    if n <= 1 {
+fn what_is_asked(rt: &impl Env) -> Asked {
+    if !given(rt, 1) {
         return Asked::Text;
     }
-    if 3 < n {
+    if given(rt, 3) {
         return Asked::Nonsense;
     }
-    if !svg_asked() {
+    if !svg_asked(rt) {
         return Asked::Nonsense;
     }
-    if n == 2 {
+    if !given(rt, 2) {
         return Asked::Last;
     }
-    component_asked()
+    component_asked(rt)
 }
 
 fn svg(list: &[u8], c: usize) {
-    if !picture::svg(STDOUT_FILENO, list, c) {
-        report::refusal(STDOUT_FILENO, Refusal::at(fault::ABSENT, c));
+    if !picture::svg(STDOUT, list, c) {
+        report::refusal(STDOUT, Refusal::at(fault::ABSENT, c));
     }
 }
 
@@ -65,28 +87,28 @@ fn answer(list: &[u8], n: usize, a: Asked) {
     let list = &list[0..n];
     match a {
         Asked::Text => {
-            shown::list(STDOUT_FILENO, list);
-            picture::components(STDOUT_FILENO, list);
+            shown::list(STDOUT, list);
+            picture::components(STDOUT, list);
         }
         Asked::Last => svg(list, parts::last(list)),
         Asked::Component(c) => svg(list, c as usize),
         Asked::Nonsense => {
             io::write_all(
-                STDERR_FILENO,
+                STDERR,
                 b"usage: show [--svg [COMPONENT]], a design file on standard input\n",
             );
         }
     }
 }
 
-fn main() {
-    let a = what_is_asked();
+fn main(rt: HostRuntime) {
+    let a = what_is_asked(&rt);
     // One byte more than any file has: whatever is longer is refused for its length.
     let mut file = [0u8; 65537];
-    let n = io::read_full(STDIN_FILENO, &mut file);
+    let n = io::read_full(STDIN, &mut file);
     let mut list = io::large_buffer();
     match packing::unpack(&file[..n], &mut list) {
         Written::Done(k) => answer(&list, k, a),
-        Written::Refused(r) => report::refusal(STDOUT_FILENO, r),
+        Written::Refused(r) => report::refusal(STDOUT, r),
     }
 }
