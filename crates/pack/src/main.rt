@@ -2,17 +2,17 @@
 #![tactic(auto)]
 
 use answers::Written;
-use libc::{STDERR_FILENO, STDIN_FILENO, STDOUT_FILENO};
+use report::{STDERR, STDIN, STDOUT};
 
 fn main() {
     // One byte more than any file has: whatever is longer is refused for its length.
     let mut list = [0u8; 65537];
-    let n = io::read_full(STDIN_FILENO, &mut list);
+    let n = io::read_full(STDIN, &mut list);
     let mut file = io::large_buffer();
     match packing::pack(&list[..n], &mut file) {
         Written::Done(k) => {
-            io::write_all(STDOUT_FILENO, &file[..k]);
+            io::write_all(STDOUT, &file[..k]);
         }
-        Written::Refused(r) => report::refusal(STDERR_FILENO, r),
+        Written::Refused(r) => report::refusal(STDERR, r),
     }
 }
