@@ -1,11 +1,11 @@
 // The control rows of every built component of the file on standard input, as document 01 prints them; or the refusal.
 #![tactic(auto)]
 
-use libc::{STDIN_FILENO, STDOUT_FILENO};
+use report::{STDIN, STDOUT};
 
 fn main() {
     // One byte more than any file has: whatever is longer is refused for its length.
     let mut file = [0u8; 65537];
-    let n = io::read_full(STDIN_FILENO, &mut file);
-    printed::lowered(STDOUT_FILENO, &file[..n]);
+    let n = io::read_full(STDIN, &mut file);
+    printed::lowered(STDOUT, &file[..n]);
 }

@@ -5,7 +5,9 @@
 ghost use Rattle.printed.specs.Opens.{Opens};
 
 use answers::{Verdict, Written};
-use libc::STDOUT_FILENO;
+use report::STDOUT;
+use std::fs::File;
+use std::os::fd::AsRawFd;
 use verdict::Opening;
 
 #[derive(Drop)]
@@ -22,11 +24,11 @@ fn starts_of(file: &[u8], o: Opening, c: usize)
     let mut rows = [0u8; 32768];
     match listing::list_judged(file, o, c, &mut rows) {
         Written::Done(k) => {
-            io::write_all(STDOUT_FILENO, b"starts ");
-            io::print_decimal(STDOUT_FILENO, k as u64);
-            io::write_all(STDOUT_FILENO, b"\n");
+            io::write_all(STDOUT, b"starts ");
+            io::print_decimal(STDOUT, k as u64);
+            io::write_all(STDOUT, b"\n");
         }
-        Written::Refused(r) => report::refusal(STDOUT_FILENO, r),
+        Written::Refused(r) => report::refusal(STDOUT, r),
     }
 }
 
@@ -43,40 +45,42 @@ fn count(file: &[u8]) {
                 starts_of(file, o, components - 1);
             }
         }
-        Verdict::Refused(r) => report::refusal(STDOUT_FILENO, r),
+        Verdict::Refused(r) => report::refusal(STDOUT, r),
     }
 }
 
-fn printout(name: &[u8], what: Printed) {
+fn printout(rt: &HostRuntime, name: &str, what: Printed) {
     let mut file = [0u8; 66048];
-    let fd = os::open_read(name);
-    let n = io::read_full(fd, &mut file);
-    libc::close(fd);
-    io::write_all(STDOUT_FILENO, name);
-    io::write_all(STDOUT_FILENO, b"\n");
+    let n = match File::open(rt, name) {
+        Ok(opened) => io::read_full(opened.as_raw_fd(), &mut file),
+        // What cannot be opened is printed as an empty file.
+        Err(_) => 0,
+    };
+    io::write_all(STDOUT, name.as_bytes());
+    io::write_all(STDOUT, b"\n");
     match what {
-        Printed::Rows => printed::lowered(STDOUT_FILENO, &file[..n]),
-        Printed::Starts => printed::last_listed(STDOUT_FILENO, &file[..n]),
+        Printed::Rows => printed::lowered(STDOUT, &file[..n]),
+        Printed::Starts => printed::last_listed(STDOUT, &file[..n]),
         Printed::Count => count(&file[..n]),
     }
 }
 
-fn main() {
-    printout(b"squaring", Printed::Rows);
-    printout(b"squaring", Printed::Starts);
-    printout(b"sources", Printed::Rows);
-    printout(b"sources", Printed::Starts);
-    printout(b"refused", Printed::Rows);
-    printout(b"refused", Printed::Starts);
-    printout(b"deep", Printed::Count);
-    printout(b"empty-levels", Printed::Starts);
-    printout(b"unused-instances", Printed::Starts);
-    printout(b"doubling-16", Printed::Starts);
-    printout(b"doubling-32", Printed::Starts);
-    printout(b"doubling-64", Printed::Starts);
-    printout(b"rows-4096", Printed::Count);
-    printout(b"rows-4097", Printed::Starts);
-    printout(b"units-4096", Printed::Starts);
-    printout(b"units-4097", Printed::Starts);
-    printout(b"hidden", Printed::Count);
+fn main(rt: HostRuntime) {
+    printout(&rt, "squaring", Printed::Rows);
+    printout(&rt, "squaring", Printed::Starts);
+    printout(&rt, "sources", Printed::Rows);
+    printout(&rt, "sources", Printed::Starts);
+    printout(&rt, "refused", Printed::Rows);
+    printout(&rt, "refused", Printed::Starts);
+    printout(&rt, "deep", Printed::Count);
+    printout(&rt, "empty-levels", Printed::Starts);
+    printout(&rt, "unused-instances", Printed::Starts);
+    printout(&rt, "doubling-16", Printed::Starts);
+    printout(&rt, "doubling-32", Printed::Starts);
+    printout(&rt, "doubling-64", Printed::Starts);
+    printout(&rt, "rows-4096", Printed::Count);
+    printout(&rt, "rows-4097", Printed::Starts);
+    printout(&rt, "units-4096", Printed::Starts);
+    printout(&rt, "units-4097", Printed::Starts);
+    printout(&rt, "hidden", Printed::Count);
 }

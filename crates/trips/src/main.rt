@@ -3,10 +3,10 @@
 #![tactic(auto)]
 
 use answers::{Counted, Lookup, Written};
-use libc::STDOUT_FILENO;
+use report::STDOUT;
 
 fn say(text: &[u8]) {
-    io::write_all(STDOUT_FILENO, text);
+    io::write_all(STDOUT, text);
 }
 
 // Bytes of all values, in no order.
@@ -24,10 +24,10 @@ fn say_written(name: &[u8], answer: Written) {
     say(name);
     match answer {
         Written::Done(n) => {
-            io::print_decimal(STDOUT_FILENO, n as u64);
+            io::print_decimal(STDOUT, n as u64);
             say(b" bytes\n");
         }
-        Written::Refused(r) => report::refusal(STDOUT_FILENO, r),
+        Written::Refused(r) => report::refusal(STDOUT, r),
     }
 }
 
@@ -35,10 +35,10 @@ fn say_counted(name: &[u8], answer: Counted) {
     say(name);
     match answer {
         Counted::Records(n) => {
-            io::print_decimal(STDOUT_FILENO, n as u64);
+            io::print_decimal(STDOUT, n as u64);
             say(b" records\n");
         }
-        Counted::Refused(r) => report::refusal(STDOUT_FILENO, r),
+        Counted::Refused(r) => report::refusal(STDOUT, r),
     }
 }
 
@@ -46,7 +46,7 @@ fn say_lookup(name: &[u8], answer: Lookup) {
     say(name);
     match answer {
         Lookup::Present => say(b"present\n"),
-        Lookup::Refused(r) => report::refusal(STDOUT_FILENO, r),
+        Lookup::Refused(r) => report::refusal(STDOUT, r),
     }
 }
 
@@ -59,7 +59,7 @@ fn size_of(answer: Written) -> usize {
 
 // The list's file goes into `file`, and the file's list into `again`.
 fn there_and_back(list: &[u8], file: &mut [u8], again: &mut [u8]) {
-    io::print_decimal(STDOUT_FILENO, (list.len() / 16) as u64);
+    io::print_decimal(STDOUT, (list.len() / 16) as u64);
     let k = size_of(packing::pack(list, file));
     if k <= file.len() {
         say_counted(b" records in: out ", blocks::sound(&file[0..k]));
