@@ -3,13 +3,13 @@
 #![tactic(auto)]
 
 use assembly::State;
-use libc::{STDERR_FILENO, STDIN_FILENO, STDOUT_FILENO};
+use report::{STDERR, STDIN, STDOUT};
 use text::Expected;
 
 // One read of the text. A short one is its end.
 fn turn(line: &mut [u8], list: &mut [u8], before: State) -> State {
     let mut chunk = io::large_buffer();
-    let n = io::read_full(STDIN_FILENO, &mut chunk);
+    let n = io::read_full(STDIN, &mut chunk);
     let mut s = assembly::fed(&chunk[..n], line, list, before);
     s.ended = n < 65536;
     s
@@ -39,7 +39,7 @@ fn write(list: &[u8], records: usize) {
     if list.len() < 16 * records {
         return;
     }
-    io::write_all(STDOUT_FILENO, &list[0..16 * records]);
+    io::write_all(STDOUT, &list[0..16 * records]);
 }
 
 fn main() {
@@ -48,11 +48,11 @@ fn main() {
     let s = whole(&mut line, &mut list);
     if s.wrong {
         let e = s.expected;
-        io::write_all(STDERR_FILENO, b"line ");
-        io::print_decimal(STDERR_FILENO, s.line);
-        io::write_all(STDERR_FILENO, b": expected ");
-        sentence::ask(STDERR_FILENO, e);
-        io::write_all(STDERR_FILENO, b"\n");
+        io::write_all(STDERR, b"line ");
+        io::print_decimal(STDERR, s.line);
+        io::write_all(STDERR, b": expected ");
+        sentence::ask(STDERR, e);
+        io::write_all(STDERR, b"\n");
         return;
     }
     write(&list, s.records);
