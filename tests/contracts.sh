@@ -6,7 +6,7 @@ cd "$(dirname "$0")/.." || exit 1
 room=$(mktemp -d) || exit 1
 trap 'rm -rf "$room"' EXIT
 trap 'exit 1' HUP INT TERM
-mkdir -p "$room/tools" "$room/crates/one/src"
+mkdir -p "$room/tools" "$room/crates/one/src" "$room/crates/one/out/rlib/src"
 cp tools/contracts "$room/tools/contracts"
 failed=0
 
@@ -51,6 +51,8 @@ pub extern "C" fn exported(x: u8) -> u8
     x
 }
 TEXT
+    # What rt has made is no source.
+    printf 'pub fn made() {}\n' >"$room/crates/one/out/rlib/src/lib.rt"
     printf 'one::part::exported  ground\none::prints  ground\n' >"$room/tools/without-ensures.txt"
     printf 'one::Pair::asking  ground\n' >"$room/tools/with-requires.txt"
 }

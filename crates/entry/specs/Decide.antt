@@ -1,4 +1,5 @@
--- Every rule of the table is decided by computing. `search decisions` puts the decision of a rule together from its parts, whatever the rule says.
+-- Every rule of the table is decided. `search decisions` puts the decision of a rule together from its parts, whatever the rule says. Which one it found
+-- is not seen, and makes no difference; proofs/Computing decides by what can be computed with.
 -- Assumes nothing.
 use Rattle.std.specs.Prelude.{ℕ, List, [], ◌∷◌}
 use Rattle.timeline.specs.Design.{Component, Port, Source, own, output_of, constant}

@@ -1,4 +1,4 @@
--- Why the theorems hold. Nobody has to read below this file to know what they say.
+-- What is proved of timetables stands in Demand3, Listing, IsLawful and, of an example, Squaring. The other files are why it holds.
 pub mod Takes
 pub mod Down
 pub mod Apart

@@ -1,2 +1,2 @@
-// What proofs by hand have in common: functions that hold a lent slice of structs are not covered by the checker's own part, and each is proved by a walk of its compiled form. Lemmas only.
+// What proofs by hand over lent slices have in common: walks of a function's compiled form. The checker covers such functions by itself, so no function needs one today. Lemmas only.
 #![tactic(auto)]
