@@ -2,6 +2,7 @@ pub mod Counts
 pub mod Whole
 pub mod Passed
 pub mod Unpacked
+pub mod Going
 pub mod Reached
 pub mod Handed
 pub mod Begins

@@ -1,4 +1,4 @@
--- The invariant of the loop over the components, and how each of them carries it on: the table has the rows of the components before.
+-- How each component carries on the invariant of the loop over them (Going).
 -- Assumes nothing.
 use Prim.Native.Nat.{ℕ, zero, suc, ◌+◌, ◌-◌, ◌*◌, ◌/◌, ◌≤◌, ◌<◌}
 use mathlib.Core.Bool.{Bool, true, false}
@@ -27,7 +27,7 @@ use Rattle.reader.proofs.Class.{row_back}
 use Rattle.look.specs.Listed.{records_of}
 use Rattle.component.specs.declared.Progress.{Progress}
 use Rattle.component.specs.declared.Ended.{Ended}
-use Rattle.component.specs.Run.{Run, waits, view, rest, Onward}
+use Rattle.component.specs.Run.{Run, waits, view, rest}
 use Rattle.component.specs.Component.{Begun as Begun-at, Begins, with_row, run, Goes, Stops, Read}
 use Rattle.component.proofs.Turns.{stay, further}
 use Rattle.verdict.specs.declared.Begun.{Begun}
@@ -36,6 +36,7 @@ use Rattle.verdict.specs.Opening.{row_of, RowsOf, Fills}
 use Rattle.verdict.specs.Started.{said, Starts}
 use Rattle.verdict.proofs.Counts.{count_bounds}
 use Rattle.verdict.proofs.Whole.{Holds, whole, rows_right}
+use Rattle.verdict.proofs.Going.{left, Going, Done, Reached, Stands}
 
 row_is : (D : Design.Design) (c : ℕ) (v : Row) → RowOf (Design.component D c) (component_number D c) v → signature v ≡ row_of D c
 unfolding signature Design.class Design.delay Design.input_count Design.output_count
@@ -45,30 +46,8 @@ judged_so : (file : List ℕ) (rows n : ℕ) → 64 ≤ rows → sound file ≡ 
 unfolding judgement
 judged_so file rows n l e = rw (le-ltb rows 64 l, e)
 
-module _ (n : ℕ) where
-  -- How much is left.
-  abbrev pub left : (goes : Bool) → (at : ℕ) → ℕ
-  left true at = suc (n - at)
-  left false at = 0
-
 module _ (file : List ℕ) (n : ℕ) where
-  -- The table has f.
-  pub record Going (f : ℕ → Signature) (q : Progress) : Type 0 where
-    pub within : q.at ≤ n
-    pub begins : Begins q
-    pub rows : ℕ → Row
-    pub shows : (c : ℕ) → c < q.count - 1 → f c ≡ signature (rows c)
-    pub onward : Onward file n waits 0 (run rows q) q.at
-
-  pub record Done (f : ℕ → Signature) (q : Progress) : Type 0 where
-    pub answer : rest file n waits 0 ≡ said q
-    pub filled : q.refusal.number ≡ 0 → (q.at ≡ n) × RowsOf (design (records_of file n)) f
-
-  abbrev pub Reached : (goes : Bool) → (ℕ → Signature) → Progress → Type 0
-  Reached true f q = Going f q
-  Reached false f q = Done f q
-
-  pub reached_first : (f : ℕ → Signature) (q : Progress) → fresh q.reader ≡ before → q.at ≡ 0 → q.count ≡ 0 → Going f q
+  pub reached_first : (f : ℕ → Signature) (q : Progress) → fresh q.reader ≡ before → q.at ≡ 0 → q.count ≡ 0 → Going file n f q
   reached_first f q e a c =
       record {
         within = omega arith;
@@ -79,7 +58,7 @@ module _ (file : List ℕ) (n : ℕ) where
       }
 
   -- One component more. f': what the table then has.
-  module _ (few : Holds file n) (f : ℕ → Signature) (q : Progress) (here : Going f q) (e : Ended) (place : e.place ≡ q.count - 1)
+  module _ (few : Holds file n) (f : ℕ → Signature) (q : Progress) (here : Going file n f q) (e : Ended) (place : e.place ≡ q.count - 1)
       (read : (rows : ℕ → Row) → ((c : ℕ) → c < q.count - 1 → row (f c) ≡ rows c) → Read file n e.progress.goes rows q e) (exact : Exact e.row) where
     done : Read file n e.progress.goes here.rows q e
     done = read here.rows (λ c l. ap row (here.shows c l) ∙ row_back (here.rows c))
@@ -109,14 +88,14 @@ module _ (file : List ℕ) (n : ℕ) where
           go (yes z) = rw z (new ∙ ap signature (sym (changed_there here.rows e.place (row e.row))))
           go (no z) = let y : c < e.place = omega arith in old c y ∙ ap signature (sym (changed_below here.rows e.place (row e.row) c y))
 
-      goes : Goes file n here.rows q e → Going f' e.progress
+      goes : Goes file n here.rows q e → Going file n f' e.progress
       goes r = record { within = r.within; begins = r.begins; rows = with_row q.count here.rows (row e.row); shows = λ c l. shown q.count refl c (let y = r.count in omega arith); onward = further file n here.onward r.onward }
         where
           shown : (k : ℕ) → q.count ≡ k → (c : ℕ) → c < q.count → f' c ≡ signature (with_row k here.rows (row e.row) c)
           shown zero y c l = absurd (omega arith)
           shown (suc k) y c l = let z : e.place ≡ k = omega arith in same c (omega arith) ∙ ap (λ (p : ℕ). signature (changed here.rows p (row e.row) c)) z
 
-      stops : Stops file n here.rows q e → Done f' e.progress
+      stops : Stops file n here.rows q e → Done file n f' e.progress
       stops r = record { answer = here.onward.answer ∙ by_number (ℕ_discrete e.progress.refusal.number 0); filled = λ z. ((r.whole z).0, rows_there z) }
         where
           by_number : Dec (e.progress.refusal.number ≡ 0) → rest file n (run here.rows q) q.at ≡ said e.progress
@@ -140,10 +119,10 @@ module _ (file : List ℕ) (n : ℕ) where
               let g : changed here.rows w.final.number (own_row w.final) c ≡ changed here.rows e.place (row e.row) c = ap (λ (p : ℕ). changed here.rows p (own_row w.final) c) w.number ∙ ap (λ (v : Row). changed here.rows e.place v c) w.row in
               same c (omega arith) ∙ ap signature (sym g) ∙ row_is (design (records_of file n)) c _ (t c l)
 
-      pub reached_next : Reached e.progress.goes f' e.progress
+      pub reached_next : Reached file n e.progress.goes f' e.progress
       reached_next = go e.progress.goes done
         where
-          go : (b : Bool) → Read file n b here.rows q e → Reached b f' e.progress
+          go : (b : Bool) → Read file n b here.rows q e → Reached file n b f' e.progress
           go true r = goes r
           go false r = stops r
 
@@ -156,43 +135,28 @@ filled_done file f n q d a e = go (ℕ_discrete q.refusal.number 0)
     go (no z) = rw (e, ne_eqb q.refusal.number 0 z) tt
 
 module _ (file : List ℕ) (rows n : ℕ) where
-  -- Of a table with enough rows and sound blocks.
-  pub record Working (f : ℕ → Signature) (q : Progress) : Type 0 where
-    pub enough : 64 ≤ rows
-    pub counted : sound file ≡ accepted n
-    pub small : Bytes file
-    pub going : Going file n f q
-
-  pub record Finished (f : ℕ → Signature) (q : Progress) : Type 0 where
-    pub answer : judgement file rows ≡ said q
-    pub fills : Fills (judgement file rows) file f
-
-  abbrev pub Stands : (goes : Bool) → (ℕ → Signature) → Progress → Type 0
-  Stands true f q = Working f q
-  Stands false f q = Finished f q
-
-  pub stands_needs : {f : ℕ → Signature} {q : Progress} → Stands true f q → (64 ≤ rows) × (1 ≤ n) × (n ≤ 3968) × (n ≤ 31 * (length file / 512)) × (q.at ≤ n) × Begins q
+  pub stands_needs : {f : ℕ → Signature} {q : Progress} → Stands file rows n true f q → (64 ≤ rows) × (1 ≤ n) × (n ≤ 3968) × (n ≤ 31 * (length file / 512)) × (q.at ≤ n) × Begins q
   stands_needs w =
       let b = count_bounds file n w.counted in
       (w.enough, b.0, b.1, b.2, w.going.within, w.going.begins)
 
-  module _ {f : ℕ → Signature} {q : Progress} (here : Stands true f q) (e : Ended) (place : e.place ≡ q.count - 1) (read : (known : ℕ → Row) → ((c : ℕ) → c < q.count - 1 → row (f c) ≡ known c) → Read file n e.progress.goes known q e) (exact : Exact e.row) where
+  module _ {f : ℕ → Signature} {q : Progress} (here : Stands file rows n true f q) (e : Ended) (place : e.place ≡ q.count - 1) (read : (known : ℕ → Row) → ((c : ℕ) → c < q.count - 1 → row (f c) ≡ known c) → Read file n e.progress.goes known q e) (exact : Exact e.row) where
     holds : Holds file n
     holds = let b = count_bounds file n here.counted in record { within = b.2; few = b.1; small = here.small }
 
     pub stands_less : left n e.progress.goes e.progress.at < left n true q.at
     stands_less = less file n holds f q here.going e place read exact
 
-    pub stands_next : (f' : ℕ → Signature) → ((c : ℕ) → f' c ≡ changed f e.place e.row c) → Stands e.progress.goes f' e.progress
+    pub stands_next : (f' : ℕ → Signature) → ((c : ℕ) → f' c ≡ changed f e.place e.row c) → Stands file rows n e.progress.goes f' e.progress
     stands_next f' stored = go e.progress.goes (reached_next file n holds f q here.going e place read exact f' stored)
       where
-        go : (b : Bool) → Reached file n b f' e.progress → Stands b f' e.progress
+        go : (b : Bool) → Reached file n b f' e.progress → Stands file rows n b f' e.progress
         go true r = record { enough = here.enough; counted = here.counted; small = here.small; going = r }
         go false r =
             let y : judgement file rows ≡ said e.progress = judged_so file rows n here.enough here.counted ∙ whole file n holds ∙ r.answer in
             record { answer = y; fills = filled_done file f' n e.progress r (judgement file rows) y }
 
-  pub stands_done : {f : ℕ → Signature} {q : Progress} → Stands false f q → (a : Answer Counts) → a ≡ said q → (a ≡ judgement file rows) × Fills a file f
+  pub stands_done : {f : ℕ → Signature} {q : Progress} → Stands file rows n false f q → (a : Answer Counts) → a ≡ said q → (a ≡ judgement file rows) × Fills a file f
   stands_done {f} w a e = let same = e ∙ sym w.answer in (same, subst (λ (b : Answer Counts). Fills b file f) (sym same) w.fills)
 
 pub stands_first : (file : List ℕ) (rows : ℕ) → Bytes file → (b : Begun) → Starts file rows b b.progress.goes → (f : ℕ → Signature) → Stands file rows b.records b.progress.goes f b.progress

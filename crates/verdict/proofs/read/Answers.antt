@@ -3,7 +3,8 @@ use Rattle.std.proofs.Common.{◌≡◌, ◌<◌, ℕ, Bool, length, subst, sym,
 use Rattle.reading.specs.Changed.{changed}
 use Rattle.verdict.specs.Judgement.{kept}
 use Rattle.verdict.proofs.Handed.{kept_stored}
-use Rattle.verdict.proofs.Reached.{Stands, stands_first, stands_needs, stands_less, stands_next, left}
+use Rattle.verdict.proofs.Going.{Stands, left}
+use Rattle.verdict.proofs.Reached.{stands_first, stands_needs, stands_less, stands_next}
 use Rattle.verdict.proofs.read.Goals as goal
 
 pub loop-q-init : goal.loop-q-init

@@ -1,6 +1,6 @@
 use Rattle.std.proofs.Common.{length}
 use Rattle.verdict.specs.Judgement.{kept}
-use Rattle.verdict.proofs.Reached.{Stands, left}
+use Rattle.verdict.proofs.Going.{Stands, left}
 use Rattle.verdict.proofs.read.Given as goal
 
 abbrev pub invariant-loop-q : goal.invariant-loop-q
