@@ -2,9 +2,8 @@
 #![tactic(auto)]
 
 use report::{STDERR, STDIN, STDOUT};
-use std::env::FillError;
-use std::rt::Env;
-use words::Word;
+use std::env::Env;
+use words::{Word, arguments};
 
 #[derive(Drop)]
 enum Asked {
@@ -13,27 +12,16 @@ enum Asked {
     Misuse,
 }
 
-// Whether argument i was given, however long it is.
-fn is_given(rt: &impl Env, i: usize) -> bool {
-    let mut word = io::buffer();
-    match rt.arg(i, &mut word) {
-        Err(FillError::NotPresent) => false,
-        Err(FillError::TooLong) | Ok(_) => true,
-    }
-}
-
 fn asked_for(rt: &impl Env) -> Asked {
-    if !is_given(rt, 1) {
+    if !arguments::given(rt, 1) {
         return Asked::Last;
     }
-    if is_given(rt, 2) {
+    if arguments::given(rt, 2) {
         return Asked::Misuse;
     }
+    // A word that is too long for the buffer comes back empty, which is no number.
     let mut word = io::buffer();
-    let Ok(n) = rt.arg(1, &mut word) else {
-        // It is too long for the buffer.
-        return Asked::Misuse;
-    };
+    let n = arguments::argument(rt, 1, &mut word);
     match words::number(&word[..n]) {
         Word::Number(c) => Asked::Component(c),
         Word::Other => Asked::Misuse,

@@ -3,12 +3,10 @@
 // refusal 14 where it is absent.
 #![tactic(auto)]
 
-ghost use Rattle.std.specs.Prelude.{◌≤◌, length};
-
 use answers::{Refusal, Written, fault};
 use report::{STDERR, STDIN, STDOUT};
-use std::env::{Env, FillError};
-use words::Word;
+use std::env::Env;
+use words::{Word, arguments};
 
 #[derive(Drop)]
 enum Asked {
@@ -19,30 +17,10 @@ enum Asked {
     Nonsense,
 }
 
-// Puts argument i at the start of `space`, and says how long it is. One that is absent, or too long for it, is an empty word.
-fn argument(rt: &impl Env, i: usize, space: &mut [u8]) -> usize
-    ensures { result ≤ length space.new }
-{
-    match rt.arg(i, space) {
-        Ok(n) => n,
-        Err(_) => 0,
-    }
-}
-
-// Whether there is an argument i.
-fn given(rt: &impl Env, i: usize) -> bool {
-    let mut space = io::buffer();
-    match rt.arg(i, &mut space) {
-        Ok(_) => true,
-        Err(FillError::TooLong) => true,
-        Err(FillError::NotPresent) => false,
-    }
-}
-
 // Whether argument 1 asks for SVG.
 fn svg_asked(rt: &impl Env) -> bool {
     let mut space = io::buffer();
-    let n = argument(rt, 1, &mut space);
+    let n = arguments::argument(rt, 1, &mut space);
     let word = &space[..n];
     check::same(word, b"--svg") | check::same(word, b"svg")
 }
@@ -50,7 +28,7 @@ fn svg_asked(rt: &impl Env) -> bool {
 // The component that argument 2 names.
 fn component_asked(rt: &impl Env) -> Asked {
     let mut space = io::buffer();
-    let n = argument(rt, 2, &mut space);
+    let n = arguments::argument(rt, 2, &mut space);
     match words::number(&space[..n]) {
         Word::Number(c) => Asked::Component(c),
         Word::Other => Asked::Nonsense,
@@ -58,16 +36,16 @@ fn component_asked(rt: &impl Env) -> Asked {
 }
 
 fn what_is_asked(rt: &impl Env) -> Asked {
-    if !given(rt, 1) {
+    if !arguments::given(rt, 1) {
         return Asked::Text;
     }
-    if given(rt, 3) {
+    if arguments::given(rt, 3) {
         return Asked::Nonsense;
     }
     if !svg_asked(rt) {
         return Asked::Nonsense;
     }
-    if !given(rt, 2) {
+    if !arguments::given(rt, 2) {
         return Asked::Last;
     }
     component_asked(rt)

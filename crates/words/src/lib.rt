@@ -1,8 +1,10 @@
-// Words of a command line: which number a word says.
+// Words of a command line: which there are, and which number a word says.
 #![tactic(auto)]
 
 ghost use Rattle.std.specs.Prelude.{◌≡◌};
 ghost use Rattle.words.specs.Said.{said, goes_on};
+
+pub mod arguments;
 
 #[derive(Drop)]
 pub enum Word {
