@@ -75,6 +75,23 @@ printf '\npub fn more() -> bool {\n    true\n}\n' >>"$room/crates/one/src/lib.rt
 says 'a function that promises nothing' 'crates/one/src/lib.rt:32: one::more is without ensures, and tools/without-ensures.txt has no ground for it'
 printf '\nimpl Pair {\n    pub fn more(self)\n        ensures { result }\n        requires { self }\n    {}\n}\n' >>"$room/crates/one/src/part.rt"
 says 'a method that asks' 'crates/one/src/part.rt:8: one::part::Pair::more has a requires, and tools/with-requires.txt has no ground for it'
+cat >>"$room/crates/one/src/part.rt" <<'TEXT'
+
+impl<'a> Told<'a> for Pair<'a, [u8; 2]> {
+    pub fn array(self) -> [u8; 2]
+        ensures { result }
+        requires { self }
+    {}
+}
+TEXT
+says 'a method of a generic type that hands back an array' 'crates/one/src/part.rt:8: one::part::Pair::array has a requires, and tools/with-requires.txt has no ground for it'
+cat >>"$room/crates/one/src/part.rt" <<'TEXT'
+
+pub trait Told: Drop {
+    fn told<T>(&self) -> [u8; 2];
+}
+TEXT
+says "a public trait's method that promises nothing" 'crates/one/src/part.rt:8: one::part::Told::told is without ensures, and tools/without-ensures.txt has no ground for it'
 sed 's/pub fn prints/fn prints/' "$room/crates/one/src/lib.rt" >"$room/changed" && mv "$room/changed" "$room/crates/one/src/lib.rt"
 says 'a function that is gone' 'tools/without-ensures.txt:2: one::prints: no public function of that name is without ensures any more: take the line out'
 rm "$room/crates/one/src/part.rt"

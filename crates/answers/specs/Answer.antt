@@ -1,13 +1,16 @@
 -- The answers in document 01's numbers and values. (01, Answers)
 -- Assumes nothing.
-use Rattle.std.specs.Prelude.{ℕ, ◌≤◌, List}
-use Rattle.answers.specs.declared.Refusal.{Refusal}
-use Rattle.answers.specs.declared.Counted.{Counted}
-use Rattle.answers.specs.declared.Lookup.{Lookup}
-use Rattle.answers.specs.declared.Written.{Written}
-use Rattle.answers.specs.declared.Verdict.{Verdict}
+use Rattle.std.specs.Prelude.{ℕ, ◌≤◌, List, Result, Ok, Err}
+use Rattle.answers.specs.declared.fault.Fault.{Fault}
+use Rattle.answers.specs.declared.Refusal.{Refusal as Found}
+use Rattle.answers.specs.declared.Counts.{Counts as Counted}
+use Rattle.answers.specs.Fault.{number}
 
--- "A refusal hands back its number and position": the code's own struct is the record of the definitions too.
+-- "A refusal hands back its number and position".
+pub record Refusal : Type 0 where
+  pub number : ℕ
+  pub position : ℕ
+
 abbrev pub refusal : (number position : ℕ) → Refusal
 refusal n p = record { number = n; position = p }
 
@@ -36,23 +39,15 @@ left (accepted a) put old = put a
 left (refused r) put old = old
 
 -- What the verdict hands back: "the component and record counts".
-pub record Counts : Type 0 where
-  pub components : ℕ
-  pub records : ℕ
+abbrev pub Counts : Type 0
+Counts = Counted
 
--- What each answer of the code says.
-abbrev pub counted : Counted → Answer ℕ
-counted (Counted.Records n) = accepted n
-counted (Counted.Refused r) = refused r
+-- What each answer of the code says: its values, or the refusal's number and position.
+abbrev pub answer : {A : Type 0} → Result A Found → Answer A
+answer (Ok a) = accepted a
+answer (Err r) = refused (refusal (number r.fault) r.position)
 
-abbrev pub looked_up : Lookup → Answer Unit
-looked_up Lookup.Present = accepted tt
-looked_up (Lookup.Refused r) = refused r
-
-abbrev pub written : Written → Answer ℕ
-written (Written.Done n) = accepted n
-written (Written.Refused r) = refused r
-
-abbrev pub judged : Verdict → Answer Counts
-judged (Verdict.Accepted c n) = accepted (record { components = c; records = n })
-judged (Verdict.Refused r) = refused r
+-- The number of what a test of the code finds wrong, and 0 where it finds nothing.
+abbrev pub broken : {A : Type 0} → Result A Fault → ℕ
+broken (Ok a) = 0
+broken (Err f) = number f

@@ -1,6 +1,7 @@
 -- The refusals of document 01's table, each by its name. (01, Answers)
 -- Assumes nothing.
 use Rattle.std.specs.Prelude.{ℕ}
+use Rattle.answers.specs.declared.fault.Fault.{Fault}
 
 -- "Length (file or record list) not allowed above"
 abbrev pub Length : ℕ
@@ -57,3 +58,20 @@ Room = 13
 -- "Component or record asked for is absent, or the component is a leaf when lowering"
 abbrev pub Absent : ℕ
 Absent = 14
+
+-- The number of each name that the code has.
+abbrev pub number : Fault → ℕ
+number Fault.Length = Length
+number Fault.Check = Check
+number Fault.Header = Header
+number Fault.Record = Record
+number Fault.Place = Place
+number Fault.TooMany = TooMany
+number Fault.Reference = Reference
+number Fault.Width = Width
+number Fault.Interval = Interval
+number Fault.Spacing = Spacing
+number Fault.Span = Span
+number Fault.Reading = Reading
+number Fault.Room = Room
+number Fault.Absent = Absent

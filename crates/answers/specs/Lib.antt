@@ -1,3 +1,4 @@
 pub mod Fault
 pub mod Answer
 pub mod Once
+pub mod Shown

@@ -1,52 +1,48 @@
-// What every function answers: acceptance with its values, or the first refusal with its position.
-// `specs/Answer.antt` gives each case document 01's number and values, and all contracts speak through it.
+// What every function answers: its values, or the first refusal with its position.
+// `answer` of `specs/Answer.antt` gives document 01's values, or the number and position of the refusal, and all contracts speak through it.
 #![tactic(auto)]
 
-ghost use Rattle.std.specs.Prelude.{◌≡◌};
-ghost use Rattle.answers.specs.Answer.{refusal};
+ghost use Rattle.std.specs.Prelude.{◌≡◌, Some};
+ghost use Rattle.answers.specs.Shown.{refusal_text};
 
-pub mod fault;
+mod fault;
 
-// A refusal: its number, and where it stands (a block, a record, an asked number, or 0).
-#[derive(Clone, Copy)]
+pub use fault::Fault;
+use std::error::Error;
+use std::fmt;
+
+// A refusal: what is wrong, and where (a block, a record, an asked number, or 0).
+#[derive(Clone, Copy, Debug, PartialEq, Eq)]
 pub struct Refusal {
-    pub number: u8,
+    pub fault: Fault,
     pub position: usize,
 }
 
 impl Refusal {
     // The one maker of refusals.
-    pub fn at(number: u8, position: usize) -> Refusal
-        ensures { result ≡ refusal number position }
+    pub fn at(fault: Fault, position: usize) -> Refusal
+        ensures { result ≡ record { fault = fault; position = position } }
     {
-        Refusal { number, position }
+        Refusal { fault, position }
     }
 }
 
-// Of a file's blocks: how many records they hold.
-#[derive(Clone, Copy)]
-pub enum Counted {
-    Records(usize),
-    Refused(Refusal),
+// "A refusal prints only `refused 11 at 12`, with its numbers."
+impl fmt::Display for Refusal {
+    ghost output = { λ r. Some (refusal_text r) };
+
+    fn fmt<W: fmt::Write>(&self, f: &mut fmt::Formatter<W>) -> fmt::Result {
+        let number = self.fault.number();
+        let position = self.position;
+        write!(f, "refused {number} at {position}")
+    }
 }
 
-// Of a record asked for by its number.
-#[derive(Clone, Copy)]
-pub enum Lookup {
-    Present,
-    Refused(Refusal),
-}
+impl Error for Refusal {}
 
-// Of a call that writes: how many bytes or rows it wrote.
-#[derive(Clone, Copy)]
-pub enum Written {
-    Done(usize),
-    Refused(Refusal),
-}
-
-// Of a whole file.
-#[derive(Clone, Copy)]
-pub enum Verdict {
-    Accepted { components: usize, records: usize },
-    Refused(Refusal),
+// What the verdict on an accepted file says: how many components and records it has.
+#[derive(Clone, Copy, Debug, PartialEq, Eq)]
+pub struct Counts {
+    pub components: usize,
+    pub records: usize,
 }

@@ -1,134 +1,96 @@
 // A text, line by line, into the list of the records that its lines say.
 #![tactic(auto)]
 
+ghost use Rattle.std.specs.Prelude.{IfOk, OnOk, OnErr, [], ◌≡◌, ◌<◌, ◌⊎◌};
+ghost use Rattle.arrayvec.specs.ArrayVec.{array_vec_len};
+ghost use Rattle.assembly.specs.Fed.{reached, closed, taken, fed, Grown, MayRefuse, Stopped, said_by};
+
+use arrayvec::ArrayVec;
 use places::Place;
-use sentence::Said;
 use text::Expected;
 
-// How far the text has been read.
-#[derive(Clone, Copy)]
-pub struct State {
-    // the number of the present line, from 1, and how many of its bytes are kept
-    pub line: u64,
-    pub used: usize,
-    // how many records the lines before it say, and the place behind them
-    pub records: usize,
+// How far a text has been read.
+#[derive(Drop)]
+pub struct Assembly {
+    // the number of the present line, from 1, and its bytes so far
+    pub line: u32,
+    pub present: ArrayVec<u8, 4096>,
+    // the records that the lines before it say, and the place behind them
+    pub list: ArrayVec<u8, 63488>,
     pub place: Place,
-    // nothing more is to be read: the text has ended, or something else was expected
-    pub ended: bool,
-    pub wrong: bool,
-    pub expected: Expected,
 }
 
-impl State {
-    pub fn first() -> State {
-        State {
+impl Assembly {
+    pub fn new() -> Assembly
+        ensures { (result.line ≡ 1) × (result.present.items ≡ []) × (result.list.items ≡ []) }
+    {
+        Assembly {
             line: 1,
-            used: 0,
-            records: 0,
+            present: ArrayVec::new(),
+            list: ArrayVec::new(),
             place: Place::first(),
-            ended: false,
-            wrong: false,
-            expected: Expected::Nothing,
         }
     }
 
-    pub fn asks(self, expected: Expected) -> State {
-        let place = self.place;
-        State {
-            line: self.line,
-            used: self.used,
-            records: self.records,
-            place,
-            ended: self.ended,
-            wrong: true,
-            expected,
+    // The record that the present line says is put behind those of the lines before it.
+    #[tactic(auto, using(crate::proofs::Steps::says_one, crate::proofs::Steps::grown_none, crate::proofs::Steps::grown_by))]
+    fn close(&mut self) -> Result<(), Expected>
+        ensures ok { OnOk result (reached self.new ≡ closed (reached self.old)) }
+        ensures err { OnErr result (self.new ≡ self.old) }
+        ensures word { OnErr result (said_by self.old.present.items ≡ 16) }
+        ensures grown { Grown self.old.list.items self.new.list.items }
+    {
+        if let Some(record) = sentence::read(self.present.as_slice(), self.place)? {
+            self.list
+                .try_extend_from_slice(&record)
+                .map_err(|_| Expected::Fewer)?;
+            self.place = self.place.after(records::decode(&record));
         }
+        Ok(())
     }
 
-    // Behind a line.
-    fn next_line(self) -> State {
-        let mut next = self;
-        next.used = 0;
-        if next.line < 4294967295 {
-            next.line += 1;
+    // One byte more of the text.
+    #[tactic(auto, using(crate::proofs::Steps::line_end, crate::proofs::Steps::letter_more, crate::proofs::Steps::line_refused, crate::proofs::Steps::letter_refused, crate::proofs::Steps::grown_none))]
+    fn take(&mut self, b: u8) -> Result<(), Expected>
+        ensures ok { OnOk result (reached self.new ≡ taken (reached self.old) b) }
+        ensures err { OnErr result (self.new ≡ self.old) }
+        ensures refused { OnErr result (MayRefuse (reached self.old) b) }
+        ensures grown { Grown self.old.list.items self.new.list.items }
+    {
+        if b == b'\n' {
+            self.close()?;
+            self.present.clear();
+            self.line = self.line.saturating_add(1);
+            return Ok(());
         }
-        next
+        self.present.try_push(b).map_err(|_| Expected::Line)
     }
-}
 
-// The record that the present line says is put behind those of the lines before it.
-fn kept(sixteen: [u8; 16], list: &mut [u8], s: State) -> State {
-    let n = s.records;
-    if 3968 <= n {
-        return s.asks(Expected::Fewer);
-    }
-    if list.len() < 16 * n + 16 {
-        return s.asks(Expected::Fewer);
-    }
-    let view: &[u8] = &sixteen;
-    list[16 * n..16 * n + 16].copy_from_slice(view);
-    let place = s.place;
-    let mut next = s;
-    next.records = n + 1;
-    next.place = place.after(records::decode(&sixteen));
-    next.next_line()
-}
-
-// The present line is read.
-fn closed(line: &[u8], list: &mut [u8], s: State) -> State {
-    let n = s.used;
-    if line.len() < n {
-        return s.asks(Expected::Line);
-    }
-    let place = s.place;
-    let read = sentence::read(&line[0..n], place);
-    let said = read.said;
-    let sixteen = read.bytes;
-    match said {
-        Said::Nothing => s.next_line(),
-        Said::Record => kept(sixteen, list, s),
-        Said::Wrong(e) => s.asks(e),
-    }
-}
-
-// One byte more of the text.
-fn taken(b: u8, line: &mut [u8], list: &mut [u8], before: State) -> State {
-    if b == 10 {
-        return closed(line, list, before);
-    }
-    let n = before.used;
-    if line.len() <= n {
-        return before.asks(Expected::Line);
-    }
-    let mut s = before;
-    line[n] = b;
-    s.used = n + 1;
-    s
-}
-
-// The next bytes of the text. Whole lines are read, and the rest is kept in `line`.
-pub fn fed(chunk: &[u8], line: &mut [u8], list: &mut [u8], before: State) -> State {
-    let mut s = before;
-    let mut i = 0;
-    while i < chunk.len() {
-        s = taken(chunk[i], line, list, s);
-        if s.wrong {
-            return s;
+    // The next bytes of the text. Whole lines are read, and the rest is kept.
+    #[tactic(auto, using(crate::proofs::Steps::fed_none, crate::proofs::Steps::fed_more, crate::proofs::Steps::fed_all, crate::proofs::Steps::stopped_at, crate::proofs::Steps::grown_none, crate::proofs::Steps::grown_more))]
+    pub fn feed(&mut self, chunk: &[u8]) -> Result<(), Expected>
+        ensures ok { OnOk result (reached self.new ≡ fed (reached self.old) chunk.now) }
+        ensures err { OnErr result (Stopped (reached self.old) chunk.now (reached self.new)) }
+        ensures grown { Grown self.old.list.items self.new.list.items }
+    {
+        for b in chunk {
+            self.take(*b)?;
         }
-        i += 1;
+        Ok(())
     }
-    s
-}
 
-// The end of the text: the last line may lack its line end.
-pub fn ended(line: &[u8], list: &mut [u8], before: State) -> State {
-    let s = closed(line, list, before);
-    if s.wrong {
-        return s;
+    // The end of the text: the last line may lack its line end, and there is a record.
+    pub fn end(&mut self) -> Result<(), Expected>
+        ensures some { IfOk result (λ _. 0 < array_vec_len self.new.list) }
+        ensures ok { OnOk result (reached self.new ≡ closed (reached self.old)) }
+        ensures err { OnErr result (reached self.new ≡ reached self.old) }
+        ensures refused { OnErr result ((said_by self.old.present.items ≡ 16) ⊎ (array_vec_len self.old.list ≡ 0)) }
+        ensures grown { Grown self.old.list.items self.new.list.items }
+    {
+        self.close()?;
+        if self.list.is_empty() {
+            return Err(Expected::Some);
+        }
+        Ok(())
     }
-    if s.records == 0 {
-        return before.asks(Expected::Some);
-    }
-    s
 }

@@ -8,9 +8,8 @@ use Rattle.std.proofs.Math.Bool.{true, false}
 use native.Mathlib.Omega.{arith}
 use Rattle.std.proofs.Math.Dec.{eqb}
 use borrow.Author.Tests.{ltb-true, eqb-true, eq-eqb}
-use Rattle.answers.specs.declared.Refusal.{Refusal}
 use Rattle.answers.specs.Fault as Fault
-use Rattle.answers.specs.Answer.{Answer, accepted, refused, then, refusal, Sure}
+use Rattle.answers.specs.Answer.{Answer, accepted, refused, then, refusal, Sure, Refusal}
 use Rattle.answers.specs.Once.{apart}
 use Rattle.numbers.specs.Numbers.{number}
 use Rattle.numbers.specs.Tests.{and_both, between, between_back}

@@ -1,19 +1,19 @@
--- How the test of the blocks goes on and ends, and what a count that is allowed is good for.
+-- How the test of the blocks goes on and ends.
 -- Assumes nothing.
 use Prim.Native.Nat.{ℕ, zero, suc, ◌+◌, ◌-◌, ◌≤◌, ◌<◌}
-use mathlib.Core.Path.{◌≡◌, sym, ◌∙◌}
+use mathlib.Core.Path.{◌≡◌}
 use mathlib.Core.List.{List}
-use mathlib.Core.Bool.{Bool, true, false}
+use mathlib.Core.Bool.{true, false}
 use native.Mathlib.Omega.{arith}
 use lib.Dec.{eqb}
 use Rattle.answers.specs.Fault as Fault
 use Rattle.answers.specs.Answer.{accepted, refused, refusal}
-use Rattle.numbers.specs.Tests.{between}
-use Rattle.blocks.specs.Block.{count_allowed, check_right, header_right}
+use Rattle.blocks.specs.Block.{check_right, header_right}
 use Rattle.blocks.specs.File.{block_count, block, record_count, sound_from}
-
-pub count_most : (count : ℕ) (last r : Bool) → r ≡ count_allowed count last → r ≡ true → count ≤ 31
-count_most count last r e t = (between 1 31 count _ (sym e ∙ t)).most
+use Rattle.blocks.specs.Block.{count_allowed}
+use Rattle.numbers.specs.Tests.{between}
+use mathlib.Core.Bool.{Bool}
+use mathlib.Core.Path.{sym, ◌∙◌}
 
 module _ (file : List ℕ) (b : ℕ) where
   left_suc : (n : ℕ) → b < n → n - b ≡ suc (n - (b + 1))
@@ -40,3 +40,7 @@ module _ (file : List ℕ) (b : ℕ) where
           → sound_from file (block_count file - b) b ≡ sound_from file (block_count file - (b + 1)) (b + 1)
       unfolding sound_from
       sound_more r = rw (left_suc (block_count file) p, q, r)
+
+-- A count that is allowed is one of 31 at most.
+pub count_most : (count : ℕ) (last r : Bool) → r ≡ count_allowed count last → r ≡ true → count ≤ 31
+count_most count last r e t = (between 1 31 count _ (sym e ∙ t)).most

@@ -2,36 +2,30 @@
 #![tactic(auto)]
 
 ghost use Rattle.std.specs.Prelude.{◌≡◌, ◌+◌, ◌*◌, ◌/◌, ◌<◌, length};
-ghost use Rattle.answers.specs.Answer.{counted, looked_up};
+ghost use Rattle.answers.specs.Answer.{answer};
 ghost use Rattle.numbers.specs.Numbers.{all_zero};
 ghost use Rattle.blocks.specs.Block.{mark, count_allowed, check_right, header_right};
 ghost use Rattle.blocks.specs.File.{length_allowed, Allowed, sound_from, sound, record_answer, part_place, part_bytes};
 
-use answers::{Counted, Lookup, Refusal, fault};
+use answers::{Fault, Refusal};
+use numbers::Number;
 
-fn index(x: u8) -> usize
-    ensures { (result ≡ x) × (result < 256) }
-{
-    x as usize
-}
-
-// Whether all bytes of a slice are zero, four at a turn.
+// Whether all bytes of a slice are zero. Four at a turn, for speed: a block with few records asks this of up to 480 bytes, and byte by
+// byte it takes twice as many instructions.
+#[tactic(auto, using(numbers::proofs::Zeros::zero_number))]
 pub fn all_zero(s: &[u8]) -> bool
     ensures { result ≡ all_zero s.now }
 {
-    let n = s.len();
-    let mut i = 0;
-    while i + 4 <= n {
-        if numbers::four(s, i) != 0 {
+    let turns = s.len() / 4;
+    for k in 0..turns {
+        if u32::read(s, 4 * k) != 0 {
             return false;
         }
-        i += 4;
     }
-    while i < n {
-        if s[i] != 0 {
+    for b in &s[4 * turns..] {
+        if *b != 0 {
             return false;
         }
-        i += 1;
     }
     true
 }
@@ -40,7 +34,7 @@ pub fn all_zero(s: &[u8]) -> bool
 pub fn mark_of(last: bool) -> u8
     ensures { result ≡ mark last }
 {
-    if last { 1 } else { 0 }
+    u8::from(last)
 }
 
 fn count_allowed(count: usize, last: bool) -> bool
@@ -53,23 +47,24 @@ fn check_right(block: &[u8]) -> bool
     requires { length block.now ≡ 512 }
     ensures { result ≡ check_right block.now }
 {
-    numbers::four(block, 508) == fnv::check(block)
+    u32::read(block, 508) == fnv::check(block)
 }
 
 // Everything but the check, of the block with this number.
+#[tactic(auto, unfolding(crate::specs::Block::header_right))]
 fn header_right(block: &[u8], number: usize, last: bool) -> bool
     requires { length block.now ≡ 512 }
     ensures { result ≡ header_right block.now number last }
 {
-    let count = index(block[4]);
-    if count_allowed(count, last) {
-        let numbered = numbers::four(block, 0) as usize == number;
-        let marked = block[5] == mark_of(last);
-        let gap = (block[6] == 0) & (block[7] == 0);
-        let rest = all_zero(&block[8 + 16 * count..508]);
-        return numbered & marked & gap & rest;
+    let count = usize::from(block[4]);
+    if !count_allowed(count, last) {
+        return false;
     }
-    false
+    let numbered = u32::read(block, 0) as usize == number;
+    let marked = block[5] == mark_of(last);
+    let gap = (block[6] == 0) & (block[7] == 0);
+    let rest = all_zero(&block[8 + 16 * count..508]);
+    numbered & marked & gap & rest
 }
 
 // "A file has 1 to 128 blocks of 512 bytes."
@@ -80,60 +75,57 @@ fn length_allowed(len: usize) -> bool
 }
 
 // The blocks in order, the check of each before the rest of it.
-fn sound_blocks(file: &[u8]) -> Counted
+fn sound_blocks(file: &[u8]) -> Result<usize, Refusal>
     requires { Allowed (length file.now) }
-    ensures { counted result ≡ sound_from file.now (length file.now / 512) 0 }
+    ensures { answer result ≡ sound_from file.now (length file.now / 512) 0 }
 {
     let n = file.len() / 512;
-    let mut b = 0;
-    while b < n {
+    for b in 0..n {
         let block = &file[512 * b..512 * b + 512];
         if !check_right(block) {
-            return Counted::Refused(Refusal::at(fault::CHECK, b));
+            return Err(Refusal::at(Fault::Check, b));
         }
         if !header_right(block, b, b + 1 == n) {
-            return Counted::Refused(Refusal::at(fault::HEADER, b));
+            return Err(Refusal::at(Fault::Header, b));
         }
-        b += 1;
     }
-    Counted::Records(31 * (n - 1) + index(file[512 * (n - 1) + 4]))
+    Ok(31 * (n - 1) + usize::from(file[512 * (n - 1) + 4]))
 }
 
 // How many records the file holds, or refusal 1, 2 or 3.
-pub fn sound(file: &[u8]) -> Counted
-    ensures { counted result ≡ sound file.now }
+#[tactic(auto, unfolding(crate::specs::File::sound))]
+pub fn sound(file: &[u8]) -> Result<usize, Refusal>
+    ensures { answer result ≡ sound file.now }
 {
-    if length_allowed(file.len()) {
-        return sound_blocks(file);
+    if !length_allowed(file.len()) {
+        return Err(Refusal::at(Fault::Length, 0));
     }
-    Counted::Refused(Refusal::at(fault::LENGTH, 0))
+    sound_blocks(file)
 }
 
 // Whether the file holds a record with this number, or refusal 1, 2, 3 or 14.
-pub fn record_answer(file: &[u8], number: usize) -> Lookup
-    ensures { looked_up result ≡ record_answer file.now number }
+#[tactic(auto, unfolding(crate::specs::File::record_answer))]
+pub fn record_answer(file: &[u8], number: usize) -> Result<(), Refusal>
+    ensures { answer result ≡ record_answer file.now number }
 {
-    match sound(file) {
-        Counted::Records(n) => {
-            if number < n {
-                Lookup::Present
-            } else {
-                Lookup::Refused(Refusal::at(fault::ABSENT, number))
-            }
-        }
-        Counted::Refused(r) => Lookup::Refused(r),
+    if number < sound(file)? {
+        Ok(())
+    } else {
+        Err(Refusal::at(Fault::Absent, number))
     }
 }
 
-// The sixteen bytes of a record as a part of the caller's own file; an empty part where `record_answer` refuses.
+// The sixteen bytes of a record as a part of the caller's own file; an empty part where `record_answer` refuses. No `Result`: document 01
+// hands back an empty part with a refusal.
+#[tactic(auto, using(crate::proofs::Accepted::record_within))]
 pub fn record(file: &[u8], number: usize) -> &[u8]
     ensures { (result.now ≡ part_bytes file.now number (record_answer file.now number)) × (result.ref_ptr.0 ≡ file.entry.ref_ptr.0) × (result.ref_ptr.1 ≡ part_place number (record_answer file.now number) + file.entry.ref_ptr.1) }
 {
     match record_answer(file, number) {
-        Lookup::Present => {
+        Ok(()) => {
             let at = 512 * (number / 31) + 8 + 16 * (number % 31);
             &file[at..at + 16]
         }
-        Lookup::Refused(_) => &file[0..0],
+        Err(_) => &file[..0],
     }
 }

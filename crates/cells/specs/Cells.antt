@@ -1,6 +1,7 @@
 -- What stands in one cell of a picture: who uses a port, or an instance, in one cycle. (01, Lowering: the timetable; docs/TEXT.md)
 -- Assumes nothing.
-use Rattle.std.specs.Prelude.{ℕ, zero, suc, ◌+◌, Bool, cond, ◌&&◌, List, get_or, ltb, leb, eqb}
+use Rattle.std.specs.Prelude.{ℕ, zero, suc, ◌+◌, Bool, cond, ◌&&◌, List, Option, None, Some, get_or, ltb, leb, eqb}
+use Rattle.parts.specs.declared.Use.{Use}
 use Rattle.cells.specs.declared.Cell.{Cell}
 use Rattle.cells.specs.declared.Cell.TheVariants.{Free, First, Next, Several}
 
@@ -23,8 +24,12 @@ abbrev pub step : (mine : Bool) → (s e delay t k j : ℕ) → Cell → Cell
 step mine s e delay t k j cell =
     joined (mine && covers s e (k + delay) t) (Next j) (joined (mine && covers s e k t) (First j) cell)
 
--- The first n invocations; `instances` and `offsets` are theirs.
-unfoldable pub cell_to : (instances offsets : List ℕ) → (i s e delay t : ℕ) → ℕ → Cell
-cell_to instances offsets i s e delay t zero = Free
-cell_to instances offsets i s e delay t (suc n) =
-    step (eqb (get_or instances n 0) i) s e delay t (get_or offsets n 0) n (cell_to instances offsets i s e delay t n)
+-- Invocation j, where there is one.
+abbrev pub after : Option Use → (i s e delay t j : ℕ) → Cell → Cell
+after None i s e delay t j cell = cell
+after (Some u) i s e delay t j cell = step (eqb u.instance i) s e delay t u.offset j cell
+
+-- The first n invocations.
+unfoldable pub cell_to : List (Option Use) → (i s e delay t : ℕ) → ℕ → Cell
+cell_to uses i s e delay t zero = Free
+cell_to uses i s e delay t (suc n) = after (get_or uses n None) i s e delay t n (cell_to uses i s e delay t n)

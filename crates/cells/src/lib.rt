@@ -1,10 +1,12 @@
 // One cell of a picture: who uses a port, or an instance, in one cycle.
 #![tactic(auto)]
 
-ghost use Rattle.std.specs.Prelude.{◌≡◌, ◌≤◌, ◌<◌, min, length};
+ghost use Rattle.std.specs.Prelude.{◌≡◌, ◌<◌, length};
 ghost use Rattle.cells.specs.Cells as Cells;
 
-#[derive(Clone, Copy)]
+use parts::Use;
+
+#[derive(Clone, Copy, Debug, PartialEq, Eq)]
 pub enum Cell {
     Free,
     // this invocation, for the first start or for the next one
@@ -13,68 +15,68 @@ pub enum Cell {
     Several,
 }
 
-fn wide(x: u16) -> usize
-    ensures { (result ≡ x) × (result < 65536) }
-{
-    x as usize
-}
-
-fn covers(s: u16, e: u16, k: usize, t: usize) -> bool
-    requires { k < 131072 }
-    ensures { result ≡ Cells.covers s e k t }
-{
-    (k + wide(s) <= t) & (t < k + wide(e))
-}
-
-fn wanted(c: Cell, one: Cell) -> Cell
-    ensures { result ≡ Cells.wanted c one }
-{
-    match c {
-        Cell::Free => one,
-        Cell::First(_) => Cell::Several,
-        Cell::Next(_) => Cell::Several,
-        Cell::Several => Cell::Several,
-    }
-}
-
-fn joined(b: bool, one: Cell, c: Cell) -> Cell
-    ensures { result ≡ Cells.joined b one c }
-{
-    if b { wanted(c, one) } else { c }
-}
-
-fn step(mine: bool, s: u16, e: u16, delay: u16, t: usize, offset: u16, j: usize, c: Cell) -> Cell
-    ensures { result ≡ Cells.step mine s e delay t offset j c }
-{
-    let k = wide(offset);
-    let first = joined(mine & covers(s, e, k, t), Cell::First(j), c);
-    joined(
-        mine & covers(s, e, k + wide(delay), t),
-        Cell::Next(j),
-        first,
-    )
-}
-
-// What instance i's port [s, e) shows in cycle t, where invocation j is of instance `instances[j]` and at offset `offsets[j]`.
-pub fn cell_at(
-    instances: &[u16],
-    offsets: &[u16],
-    i: u16,
-    s: u16,
-    e: u16,
-    delay: u16,
-    t: usize,
-) -> Cell
-    ensures { result ≡ Cells.cell_to instances.now offsets.now i s e delay t (min (length instances.now) (length offsets.now)) }
-{
-    let mut c = Cell::Free;
-    let mut j = 0;
-    while j < instances.len() {
-        if offsets.len() <= j {
-            return c;
+impl Cell {
+    // A cell that one more wants.
+    fn wanted(self, one: Cell) -> Cell
+        ensures { result ≡ Cells.wanted self one }
+    {
+        match self {
+            Cell::Free => one,
+            _ => Cell::Several,
         }
-        c = step(instances[j] == i, s, e, delay, t, offsets[j], j, c);
-        j += 1;
     }
-    c
+
+    fn joined(self, b: bool, one: Cell) -> Cell
+        ensures { result ≡ Cells.joined b one self }
+    {
+        if b { self.wanted(one) } else { self }
+    }
+}
+
+// What one line shows: the cycles from `start` up to `end` of each use of this instance; and again for the next start, `delay` cycles
+// later.
+#[derive(Clone, Copy)]
+pub struct Line {
+    pub instance: u16,
+    pub start: u16,
+    pub end: u16,
+    pub delay: u16,
+}
+
+impl Line {
+    // Whether it shows cycle t of a use at k.
+    fn covers(self, k: usize, t: usize) -> bool
+        requires { k < 131072 }
+        ensures { result ≡ Cells.covers self.start self.end k t }
+    {
+        (k + usize::from(self.start) <= t) & (t < k + usize::from(self.end))
+    }
+
+    // Cycle t, where it shows this cell before invocation j.
+    fn step(self, used: Option<Use>, j: usize, t: usize, c: Cell) -> Cell
+        ensures { result ≡ Cells.after used self.instance self.start self.end self.delay t j c }
+    {
+        let Some(u) = used else {
+            return c;
+        };
+        let mine = u.instance == self.instance;
+        let k = usize::from(u.offset);
+        let first = c.joined(mine & self.covers(k, t), Cell::First(j));
+        first.joined(
+            mine & self.covers(k + usize::from(self.delay), t),
+            Cell::Next(j),
+        )
+    }
+
+    // Cycle t of the line, where these are the component's invocations, each in its place.
+    #[tactic(auto, unfolding(crate::specs::Cells::cell_to))]
+    pub fn cell_at(self, uses: &[Option<Use>], t: usize) -> Cell
+        ensures { result ≡ Cells.cell_to uses.now self.instance self.start self.end self.delay t (length uses.now) }
+    {
+        let mut c = Cell::Free;
+        for (j, used) in uses.iter().enumerate() {
+            c = self.step(*used, j, t, c);
+        }
+        c
+    }
 }

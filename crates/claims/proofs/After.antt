@@ -5,8 +5,7 @@ use mathlib.Core.List.{List}
 use mathlib.Core.Logic.{◌↔◌, ◌⊎◌, inl, inr}
 use mathlib.Core.Path.{◌≡◌, ap, ◌∙◌}
 use lib.ListN.{length}
-use Rattle.answers.specs.declared.Refusal.{Refusal}
-use Rattle.answers.specs.Answer.{Answer, accepted, refused, then, Counts}
+use Rattle.answers.specs.Answer.{Answer, accepted, refused, then, Counts, Refusal}
 use Rattle.blocks.proofs.Accepted.{sound_count}
 use Rattle.timeline.specs.Design.{Design}
 use Rattle.verdict.specs.Judgement.{judgement}

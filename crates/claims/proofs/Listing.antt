@@ -10,9 +10,8 @@ use lib.ListN.{length, get_or, drop}
 use lib.Seq.{drop_at}
 use lib.Dec.{ltb, leb}
 use borrow.Author.Tests.{lt-ltb, le-ltb, ltb-true, ltb-false, le-leb, leb-true}
-use Rattle.answers.specs.declared.Refusal.{Refusal}
 use Rattle.answers.specs.Fault as Fault
-use Rattle.answers.specs.Answer.{Answer, accepted, refused, then, refusal, Counts}
+use Rattle.answers.specs.Answer.{Answer, accepted, refused, then, refusal, Counts, Refusal}
 use Rattle.answers.specs.Once.{apart, one_refusal}
 use Rattle.numbers.specs.Numbers.{number}
 use Rattle.numbers.specs.Tests.{and_both}

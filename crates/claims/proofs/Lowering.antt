@@ -9,9 +9,8 @@ use native.Mathlib.Omega.{arith}
 use lib.ListN.{length, drop}
 use lib.Dec.{ltb}
 use borrow.Author.Tests.{lt-ltb, le-ltb, ltb-true, ltb-false}
-use Rattle.answers.specs.declared.Refusal.{Refusal}
 use Rattle.answers.specs.Fault as Fault
-use Rattle.answers.specs.Answer.{Answer, accepted, refused, then, refusal, Counts}
+use Rattle.answers.specs.Answer.{Answer, accepted, refused, then, refusal, Counts, Refusal}
 use Rattle.answers.specs.Once.{apart, one_refusal}
 use Rattle.numbers.specs.Tests.{and_both}
 use Rattle.timeline.specs.Design.{Design, class}

@@ -8,9 +8,8 @@ use mathlib.Core.Logic.{◌↔◌, ◌⊎◌, inl, inr}
 use lib.ListN.{length}
 use lib.Dec.{ltb}
 use borrow.Author.Tests.{lt-ltb, le-ltb, ltb-true, ltb-false}
-use Rattle.answers.specs.declared.Refusal.{Refusal}
 use Rattle.answers.specs.Fault as Fault
-use Rattle.answers.specs.Answer.{Answer, accepted, refused, then, refusal, Counts}
+use Rattle.answers.specs.Answer.{Answer, accepted, refused, then, refusal, Counts, Refusal}
 use Rattle.answers.specs.Once.{one_refusal}
 use Rattle.numbers.specs.Numbers.{Bytes}
 use Rattle.blocks.specs.File.{sound}

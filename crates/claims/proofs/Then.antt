@@ -2,8 +2,7 @@
 -- Assumes nothing.
 use mathlib.Core.Path.{◌≡◌, refl, ap, sym, ◌∙◌}
 use mathlib.Core.Logic.{◌↔◌, ◌⊎◌, inl, inr}
-use Rattle.answers.specs.declared.Refusal.{Refusal}
-use Rattle.answers.specs.Answer.{Answer, accepted, refused, then}
+use Rattle.answers.specs.Answer.{Answer, accepted, refused, then, Refusal}
 use Rattle.answers.specs.Once.{apart, one_refusal}
 
 module _ {A B : Type 0} (f : A → Answer B) where

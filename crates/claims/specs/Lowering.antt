@@ -1,9 +1,8 @@
 -- What lowering asks of a component of a design, and what refuses it.
 -- Assumes nothing.
 use Rattle.std.specs.Prelude.{ℕ, ◌*◌, ◌<◌, ◌≡◌, ◌⊎◌, length}
-use Rattle.answers.specs.declared.Refusal.{Refusal}
 use Rattle.answers.specs.Fault as Fault
-use Rattle.answers.specs.Answer.{refusal}
+use Rattle.answers.specs.Answer.{refusal, Refusal}
 use Rattle.timeline.specs.Design.{Design, built, class}
 use Rattle.timetable.specs.Rows.{rows}
 

@@ -1,8 +1,8 @@
 -- How the light look at the instances ahead goes on and ends, and that it sees what the records say.
 -- Assumes nothing.
-use Prim.Native.Nat.{ℕ, suc, ◌+◌, ◌-◌, ◌<◌, ◌≤◌}
+use Prim.Native.Nat.{ℕ, zero, suc, ◌+◌, ◌-◌, ◌<◌, ◌≤◌}
 use mathlib.Core.Bool.{Bool, true, false, not, ◌||◌}
-use mathlib.Core.Path.{◌≡◌, ap, ◌∙◌}
+use mathlib.Core.Path.{◌≡◌, refl, ap, ◌∙◌}
 use mathlib.Core.List.{List, [], ◌∷◌}
 use mathlib.Core.Logic.{◌≢◌}
 use native.Mathlib.Omega.{arith}
@@ -57,3 +57,12 @@ module _ (file : List ℕ) (n i before : ℕ) where
         let f : first_number file i ≡ c = first_is file i ∙ t.1 in
         let p : past file i before ≡ false = rw (eq-eqb (kind file i) 3 k, f, lt-leb 64 c b, lt-leb 32 before some) in
         ahead_more l (λ z. absurd (omega (arith, k, z))) p ∙ ap (λ (d : ℕ). d ∷ ahead file (n - (i + 1)) (i + 1) (before + 1)) f
+
+-- Ports before record i are passed over.
+module _ (file : List ℕ) (n before i : ℕ) (l : i ≤ n) where
+  ports_passed : (d at : ℕ) → at + d ≡ i → ((k : ℕ) → at ≤ k → k < i → kind file k ≡ 2) → ahead file (n - at) at before ≡ ahead file (n - i) i before
+  ports_passed zero at e a = let z : at ≡ i = omega arith in rw z refl
+  ports_passed (suc d) at e a = ahead_port file n at before (omega arith) (a at (omega arith) (omega arith)) ∙ ports_passed d (at + 1) (omega arith) (λ k m b. a k (omega arith) b)
+
+  pub ahead_ports : (at : ℕ) → at ≤ i → ((k : ℕ) → at ≤ k → k < i → kind file k ≡ 2) → ahead file (n - at) at before ≡ ahead file (n - i) i before
+  ahead_ports at m a = ports_passed (i - at) at (omega arith) a

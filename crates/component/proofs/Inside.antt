@@ -7,6 +7,7 @@ use native.Mathlib.Omega.{arith}
 use lib.ListN.{drop, get_or, replicate, get_or-replicate}
 use Rattle.reading.specs.Reader.{Row}
 use Rattle.order.specs.Seen.{seen, closed}
+use Rattle.reader.specs.declared.Invocations.{Invocations}
 use Rattle.reader.specs.declared.Reader.{Reader}
 use Rattle.reader.specs.Rows.{none, row_in}
 use Rattle.reader.specs.Noted.{Noted}
@@ -18,6 +19,13 @@ use Rattle.component.specs.Component.{Begun, Begins, run, HoldsRows}
 use Rattle.component.proofs.Keeps.{begin_fits}
 use Rattle.component.proofs.Turns.{stay}
 
+-- The reader with what is kept of the invocations.
+abbrev pub kept_state : Reader → (held : ℕ → Row) → Invocations → State
+kept_state r h k = state r h k.instances k.offsets k.outputs k.firsts
+
+abbrev pub Noting : Reader → Invocations → Type 0
+Noting r k = Noted r k.instances k.offsets k.firsts k.least k.greatest
+
 -- No argument is due before the first invocation.
 abbrev pub Idle : State → Type 0
 Idle s = s.place.invocations ≡ 0 → s.place.due ≡ 0
@@ -28,22 +36,22 @@ Coming file n at s i = s.place.invocations ≡ 0 → s.place.connections ≡ 0 �
 
 module _ (file : List ℕ) (n : ℕ) (q : Progress) (held : List ℕ) where
   -- With the rows of the components before: what is held, and what is left.
-  pub record Sofar (rows : ℕ → Row) (r : Reader) (is os us fs : List ℕ) (i : ℕ) : Type 0 where
+  pub record Sofar (rows : ℕ → Row) (r : Reader) (k : Invocations) (i : ℕ) : Type 0 where
     pub h : ℕ → Row
     pub like : (m : ℕ) → m < r.place.instances → h m ≡ row_in held m
-    pub onward : Onward file n (run rows q) q.at (after i rows (state r h is os us fs)) i
+    pub onward : Onward file n (run rows q) q.at (after i rows (kept_state r h k)) i
 
-  pub record Inside (r : Reader) (is os us fs : List ℕ) (i : ℕ) : Type 0 where
+  pub record Inside (r : Reader) (k : Invocations) (i : ℕ) : Type 0 where
     pub from : q.at ≤ i
     pub below : i ≤ n
-    pub fit : Fit (state r none is os us fs)
+    pub fit : Fit (kept_state r none k)
     pub input : r.input ≤ 65536 + i
     pub number : r.number ≡ q.count - 1
     pub counted : 0 < i → q.count ≡ r.number + 1
     pub first : i ≡ 0 → (seen r.place ≡ closed) × (r.number ≡ 0) × (q.count ≡ 0)
-    pub idle : Idle (state r none is os us fs)
-    pub coming : Coming file n q.at (state r none is os us fs) i
-    pub sofar : (rows : ℕ → Row) → HoldsRows file n rows q.at (q.count - 1) held → Sofar rows r is os us fs i
+    pub idle : Idle (kept_state r none k)
+    pub coming : Coming file n q.at (kept_state r none k) i
+    pub sofar : (rows : ℕ → Row) → HoldsRows file n rows q.at (q.count - 1) held → Sofar rows r k i
 
 pub few_of : (r : Reader) (h : ℕ → Row) (is os us fs : List ℕ) → Fit (state r h is os us fs) → Few r
 few_of r h is os us fs w = record { number = w.number; inputs = w.few_inputs; outputs = w.few_outputs; connections = w.few_connections; delay = w.small_delay; first = w.small_first; offset = w.small_offset }
@@ -71,7 +79,11 @@ starts (suc p) count s l (k, d, c, e, few, small, f) =
     subst (λ (z : State). Starts (suc p) count z) (sym f)
     (record { fit = begin_fits k d p c few small (omega arith); input = refl; number = (let y = e in omega arith); counted = λ z. e; first = λ z. absurd (omega arith); idle = refl; uncalled = refl; none_yet = refl })
 
-pub inside_first : (file : List ℕ) (n : ℕ) (q : Progress) (held : List ℕ) → q.at ≤ n → n ≤ 3968 → Begins q → Inside file n q held q.reader (fresh q.reader).instances (fresh q.reader).offsets (fresh q.reader).outputs (fresh q.reader).output_records q.at
+-- Of no invocation yet.
+abbrev pub none_kept : Invocations
+none_kept = record { instances = replicate 64 65535; offsets = replicate 64 0; outputs = replicate 64 0; firsts = replicate 64 0; least = replicate 32 65535; greatest = replicate 32 0 }
+
+pub inside_first : (file : List ℕ) (n : ℕ) (q : Progress) (held : List ℕ) → q.at ≤ n → n ≤ 3968 → Begins q → Inside file n q held q.reader none_kept q.at
 inside_first file n q held l few b =
     let s = starts q.at q.count (fresh q.reader) (omega arith) b in
     record {
@@ -93,7 +105,7 @@ zeros_small (suc n) zero = refl
 zeros_small (suc n) (suc j) = zeros_small n j
 
 -- Nothing is noted of invocations where there are none.
-pub noted_first : (q : Progress) → q.at ≤ 3968 → Begins q → Noted q.reader (replicate 64 65535) (replicate 64 0) (replicate 64 0) (replicate 32 65535) (replicate 32 0)
+pub noted_first : (q : Progress) → q.at ≤ 3968 → Begins q → Noting q.reader none_kept
 noted_first q l b =
     let s = starts q.at q.count (fresh q.reader) l b in
     let e : q.reader.place.invocations ≡ 0 = s.uncalled in

@@ -11,23 +11,22 @@ use native.Mathlib.Decide.{dec_lt}
 use lib.Dec.{ltb→lt}
 use Rattle.numbers.specs.Numbers.{Bytes}
 use Rattle.timeline.specs.Design.{Class}
-use Rattle.answers.specs.declared.Refusal.{Refusal}
 use Rattle.answers.specs.Fault as Fault
-use Rattle.answers.specs.Answer.{accepted, refused}
+use Rattle.answers.specs.Answer.{accepted, refused, Refusal}
 use Rattle.entry.specs.Records.{Part, Record, wrong, component, part}
 use Rattle.reading.specs.Place.{may_end}
 use Rattle.reading.specs.Reader as Reading
 use Rattle.reading.specs.Reader.{Row, View, tests}
 use Rattle.reading.specs.Told.{told}
-use Rattle.reading.proofs.Told.{told_number}
 use Rattle.reading.specs.Reads.{Ranged, Passes}
 use Rattle.rules.specs.Failed.{first_failed}
 use Rattle.records.specs.Decoded.{decoded}
 use Rattle.look.specs.Look.{sixteen, look}
 use Rattle.order.specs.Seen.{seen}
+use Rattle.reader.specs.declared.Invocations.{Invocations}
 use Rattle.reader.specs.declared.Reader.{Reader}
 use Rattle.reader.specs.Rows.{none, row_in}
-use Rattle.reader.specs.State.{State, state, fresh, begin, viewed, own_row, part_went, holding, named, Turned}
+use Rattle.reader.specs.State.{State, fresh, begin, viewed, own_row, part_went, holding, named, Turned}
 use Rattle.reader.proofs.Passed.{numbered, passes}
 use Rattle.component.specs.declared.Progress.{Progress}
 use Rattle.component.specs.Run.{waits, reads, after, view, held_on, next, rest, last, Onward, Fit}
@@ -35,7 +34,7 @@ use Rattle.component.specs.Component.{with_row, run, HoldsRows}
 use Rattle.component.proofs.Keeps.{fits_holding, own_next}
 use Rattle.component.proofs.Tested.{tests_as, closed_tests, looks_at, went_as}
 use Rattle.component.proofs.Turns.{further, stops, steps, ends_whole, ends_short, ends_there, after_some}
-use Rattle.component.proofs.Inside.{Idle, Coming, Sofar, Inside}
+use Rattle.component.proofs.Inside.{Idle, Coming, Sofar, Inside, kept_state}
 use Rattle.component.proofs.Parts.{part_number, part_idle, part_fits, part_holds, part_coming, part_held}
 
 after_none : (i : ℕ) (rows : ℕ → Row) (s : State) → i ≡ 0 → after i rows s ≡ waits
@@ -46,31 +45,28 @@ after_none (suc i) rows s e = absurd (omega arith)
 abbrev pub Tells : (p m : ℕ) → Refusal → Type 0
 Tells p m t = (v : View) → (x : Record) → t ≡ told v x p m
 
-pub tells_number : (p m : ℕ) (t : Refusal) → Tells p m t → t.number ≡ m
-tells_number p m t tells = ap (λ (z : Refusal). z.number) (tells Reading.waits wrong) ∙ told_number Reading.waits wrong p m
-
-module _ (file : List ℕ) (n : ℕ) (q : Progress) (held : List ℕ) (r : Reader) (is os us fs : List ℕ) (i : ℕ) (here : Inside file n q held r is os us fs i) (l : i < n) (few : n ≤ 3968) (small : Bytes file)
-    (x : Record) (said : decoded (sixteen file i) ≡ x) (ranged : Ranged x) (w : Row) (w-is : row_in held (named x) ≡ w)
-    (refusal : ℕ) (r' : Reader) (is' os' us' fs' : List ℕ) (turned : Turned (look file) (state r (λ m. w) is os us fs) i x refusal (state r' (λ m. w) is' os' us' fs')) where
+module _ {file : List ℕ} {n : ℕ} {q : Progress} {held : List ℕ} {r : Reader} {k : Invocations} {i : ℕ} (here : Inside file n q held r k i) (l : i < n) (few : n ≤ 3968) (small : Bytes file)
+    {x : Record} (said : decoded (sixteen file i) ≡ x) (ranged : Ranged x) {m : ℕ} (m-is : m ≡ named x) {w : Row} (row-is : w ≡ row_in held m)
+    {refusal : ℕ} (r' : Reader) (k' : Invocations) (turned : Turned (look file) (kept_state r (λ m. w) k) i x refusal (kept_state r' (λ m. w) k')) where
   abbrev s : State
-  s = state r (λ m. w) is os us fs
+  s = kept_state r (λ m. w) k
 
   module _ (rows : ℕ → Row) (g : HoldsRows file n rows q.at (q.count - 1) held) where
-    abbrev so : Sofar file n q held rows r is os us fs i
+    abbrev so : Sofar file n q held rows r k i
     so = here.sofar rows g
 
     abbrev s₁ : State
-    s₁ = state r so.h is os us fs
+    s₁ = kept_state r so.h k
 
     at_named : named x < r.place.instances → so.h (named x) ≡ w
-    at_named b = so.like (named x) b ∙ w-is
+    at_named b = so.like (named x) b ∙ ap (λ (z : ℕ). row_in held z) (sym m-is) ∙ sym row-is
 
     -- The tests that are made are those of the theory.
     tested : refusal ≡ first_failed (tests (look file) (view (after i rows s₁)) x)
     tested = go (dec_lt 0 i)
       where
         go : Dec (0 < i) → refusal ≡ first_failed (tests (look file) (view (after i rows s₁)) x)
-        go (yes p) = rw (after_some i rows s₁ p) (turned.number_is ∙ tests_as (look file) so.h w r is os us fs rows x at_named)
+        go (yes p) = rw (after_some i rows s₁ p) (turned.number_is ∙ tests_as (look file) so.h w r k.instances k.offsets k.outputs k.firsts rows x at_named)
         go (no p) =
             let z : i ≡ 0 = omega arith in
             let f = here.first z in
@@ -86,7 +82,7 @@ module _ (file : List ℕ) (n : ℕ) (q : Progress) (held : List ℕ) (r : Reade
   pass z = passes (tests (look file) (Reading.reads (viewed none s)) x) (numbered (look file) (Reading.reads (viewed none s)) x) (sym turned.number_is ∙ z)
 
   -- A component record ends the component.
-  module _ (z : refusal ≡ 0) (k : Class) (d : ℕ) (is_component : x ≡ component k d) where
+  module _ (z : refusal ≡ 0) (class : Class) (d : ℕ) (is_component : x ≡ component class d) where
     pub room_left : q.count < 64
     room_left = go (dec_lt 0 i)
       where
@@ -94,10 +90,10 @@ module _ (file : List ℕ) (n : ℕ) (q : Progress) (held : List ℕ) (r : Reade
         go (yes p) = let e = here.counted p in let t = rw is_component at (pass z) in let b = ltb→lt (r.number + 1) 64 t.1.1.0 in omega arith
         go (no p) = let e = (here.first (omega arith)).2 in omega arith
 
-    pub ends_here : (rows : ℕ → Row) → HoldsRows file n rows q.at (q.count - 1) held → Onward file n (run rows q) q.at (reads (with_row q.count rows (own_row (fresh r))) (begin k d i q.count)) (i + 1)
+    pub ends_here : (rows : ℕ → Row) → HoldsRows file n rows q.at (q.count - 1) held → Onward file n (run rows q) q.at (reads (with_row q.count rows (own_row (fresh r))) (begin class d i q.count)) (i + 1)
     ends_here rows g = go (dec_lt 0 i)
       where
-        go : Dec (0 < i) → Onward file n (run rows q) q.at (reads (with_row q.count rows (own_row (fresh r))) (begin k d i q.count)) (i + 1)
+        go : Dec (0 < i) → Onward file n (run rows q) q.at (reads (with_row q.count rows (own_row (fresh r))) (begin class d i q.count)) (i + 1)
         go (yes p) =
             let e = here.counted p in
             rw (e, add-one r.number) (rw (is_component, after_some i rows (s₁ rows g) p, add-one r.number) at (moves rows g z))
@@ -119,7 +115,7 @@ module _ (file : List ℕ) (n : ℕ) (q : Progress) (held : List ℕ) (r : Reade
             let c = rw is-part at (turned.number_is ∙ closed_tests (look file) s x f.0 (let y = f.1 in omega arith)) in
             absurd (omega (arith, c, z))
 
-    kept : state r' (λ m. w) is' os' us' fs' ≡ part_went s y
+    kept : kept_state r' (λ m. w) k' ≡ part_went s y
     kept = rw is-part at (turned.goes_on z)
 
     t : Passes (tests (look file) (Reading.reads (viewed none s)) (part y))
@@ -132,23 +128,23 @@ module _ (file : List ℕ) (n : ℕ) (q : Progress) (held : List ℕ) (r : Reade
     says_part = rw is-part at said
 
     fits : Fit (holding (part_went s y) none)
-    fits = part_fits none s y (own_next (look file) (reads none s) i (part y) (omega arith) (fits_holding (state r none is os us fs) (λ m. w) here.fit) in_range t).1
+    fits = part_fits none s y (own_next (look file) (reads none s) i (part y) (omega arith) (fits_holding (kept_state r none k) (λ m. w) here.fit) in_range t).1
 
-    sofar_here : (rows : ℕ → Row) → HoldsRows file n rows q.at (q.count - 1) held → Sofar file n q held rows r' is' os' us' fs' (i + 1)
+    sofar_here : (rows : ℕ → Row) → HoldsRows file n rows q.at (q.count - 1) held → Sofar file n q held rows r' k' (i + 1)
     sofar_here rows g =
         let a = s₁ rows g in
         let b = rw (after_some i rows a some, is-part) at (tested rows g) in
         let t₁ = passes (tests (look file) (Reading.reads (viewed rows a)) (part y)) (numbered (look file) (Reading.reads (viewed rows a)) (part y)) (sym b ∙ z) in
-        let c : state r' (so rows g).h is' os' us' fs' ≡ part_went a y = went_as (so rows g).h w r is os us fs r' is' os' us' fs' y (looks_at (so rows g).h w r is os us fs (look file) y (rw is-part at (at_named rows g)) t) kept in
+        let c : kept_state r' (so rows g).h k' ≡ part_went a y = went_as (so rows g).h w r k.instances k.offsets k.outputs k.firsts r' k'.instances k'.offsets k'.outputs k'.firsts y (looks_at (so rows g).h w r k.instances k.offsets k.outputs k.firsts (look file) y (rw is-part at (at_named rows g)) t) kept in
         let h' = (held_on rows a y).held in
-        let e : state r' h' is' os' us' fs' ≡ held_on rows a y = ap (λ (u : State). holding u h') c ∙ sym (part_holds rows a y) in
+        let e : kept_state r' h' k' ≡ held_on rows a y = ap (λ (u : State). holding u h') c ∙ sym (part_holds rows a y) in
         record {
           h = h';
           like = λ m b. part_held file n q.at a i l small here.coming (look file) rows here.idle held (q.count - 1) here.number y says_part in_range t₁ g (so rows g).like m (subst (λ (u : State). m < u.place.instances) c b);
-          onward = rw (after_some (i + 1) rows (state r' h' is' os' us' fs') (omega arith), e) (rw (is-part, after_some i rows a some) at (moves rows g z));
+          onward = rw (after_some (i + 1) rows (kept_state r' h' k') (omega arith), e) (rw (is-part, after_some i rows a some) at (moves rows g z));
         }
 
-    pub goes_here : Inside file n q held r' is' os' us' fs' (i + 1)
+    pub goes_here : Inside file n q held r' k' (i + 1)
     goes_here =
         let same : r'.number ≡ r.number = ap (λ (u : State). u.number) kept ∙ part_number s y in
         record {
@@ -165,13 +161,13 @@ module _ (file : List ℕ) (n : ℕ) (q : Progress) (held : List ℕ) (r : Reade
         }
 
 -- The records are read.
-module _ (file : List ℕ) (n : ℕ) (q : Progress) (held : List ℕ) (r : Reader) (is os us fs : List ℕ) (i : ℕ) (here : Inside file n q held r is os us fs i) (l : n ≤ i) (some : 1 ≤ n) where
+module _ {file : List ℕ} {n : ℕ} {q : Progress} {held : List ℕ} {r : Reader} {k : Invocations} {i : ℕ} (here : Inside file n q held r k i) (l : n ≤ i) (some : 1 ≤ n) where
   pub all_read : i ≡ n
   all_read = let b = here.below in omega arith
 
   module _ (rows : ℕ → Row) (g : HoldsRows file n rows q.at (q.count - 1) held) where
     abbrev last_state : State
-    last_state = state r (here.sofar rows g).h is os us fs
+    last_state = kept_state r (here.sofar rows g).h k
 
     reads_on : Onward file n (run rows q) q.at (reads rows last_state) i
     reads_on = rw (after_some i rows last_state (omega arith)) at (here.sofar rows g).onward

@@ -1,12 +1,15 @@
 -- What reading the records of one component answers.
 -- Assumes nothing.
-use Rattle.std.specs.Prelude.{ℕ, zero, suc, ◌+◌, ◌-◌, ◌≤◌, ◌<◌, Bool, true, false, ◌≡◌, List, length, get_or}
-use Rattle.answers.specs.Answer.{accepted, refused, Numbered}
+use Rattle.std.specs.Prelude.{ℕ, zero, suc, ◌+◌, ◌-◌, ◌≤◌, ◌<◌, ◌≡◌, List, length, get_or, Option, None, Some, Result, Ok, Err}
+use Rattle.answers.specs.declared.Refusal.{Refusal}
+use Rattle.answers.specs.Fault.{number}
+use Rattle.answers.specs.Answer.{accepted, refused, refusal}
 use Rattle.timeline.specs.Design.{Class}
 use Rattle.reading.specs.Changed.{changed}
 use Rattle.reading.specs.Reader.{Row}
 use Rattle.reader.specs.Rows.{row, none, row_in}
 use Rattle.reader.specs.State.{State, fresh, before, begin, own_row}
+use Rattle.signatures.specs.declared.Signature.{Signature}
 use Rattle.component.specs.declared.Progress.{Progress}
 use Rattle.component.specs.declared.Ended.{Ended}
 use Rattle.component.specs.Run.{Run, reads, after, rest, last, Onward}
@@ -34,26 +37,31 @@ module _ (file : List ℕ) (n : ℕ) where
   HoldsRows rows at number held =
       (m : ℕ) → m < length (ahead file (n - at) at 0) → get_or (ahead file (n - at) at 0) m 0 < number → row_in held m ≡ rows (get_or (ahead file (n - at) at 0) m 0)
 
-  -- The next component has begun.
-  pub record Goes (rows : ℕ → Row) (q : Progress) (e : Ended) : Type 0 where
-    pub later : q.at < e.progress.at
-    pub within : e.progress.at ≤ n
-    pub begins : Begins e.progress
-    pub count : e.progress.count ≡ q.count + 1
-    pub onward : Onward file n (run rows q) q.at (run (with_row q.count rows (row e.row)) e.progress) e.progress.at
+  -- The next component has begun. w: the row of the one that has been read.
+  pub record Goes (rows : ℕ → Row) (q : Progress) (w : Signature) (p : Progress) : Type 0 where
+    pub later : q.at < p.at
+    pub within : p.at ≤ n
+    pub begins : Begins p
+    pub count : p.count ≡ q.count + 1
+    pub onward : Onward file n (run rows q) q.at (run (with_row q.count rows (row w)) p) p.at
 
-  -- Refused, or all the records are read.
-  pub record Whole (rows : ℕ → Row) (q : Progress) (e : Ended) : Type 0 where
+  -- All the records are read, the last component's with this row at this place.
+  pub record Whole (rows : ℕ → Row) (q : Progress) (place : ℕ) (w : Signature) : Type 0 where
     pub final : State
     pub leads : last file n (run rows q) q.at ≡ reads rows final
-    pub number : final.number ≡ e.place
-    pub row : own_row final ≡ row e.row
+    pub number : final.number ≡ place
+    pub row : own_row final ≡ row w
 
-  pub record Stops (rows : ℕ → Row) (q : Progress) (e : Ended) : Type 0 where
-    pub refuses : Numbered e.progress.refusal.number → rest file n (run rows q) q.at ≡ refused e.progress.refusal
-    pub accepts : e.progress.refusal.number ≡ 0 → rest file n (run rows q) q.at ≡ accepted (record { components = e.progress.count; records = e.progress.at })
-    pub whole : e.progress.refusal.number ≡ 0 → (e.progress.at ≡ n) × (e.progress.count ≡ e.place + 1) × Whole rows q e
+  pub record Stops (rows : ℕ → Row) (q : Progress) (place : ℕ) (w : Signature) : Type 0 where
+    pub accepts : rest file n (run rows q) q.at ≡ accepted (record { components = q.count; records = n })
+    pub count : q.count ≡ place + 1
+    pub whole : Whole rows q place w
 
-  abbrev pub Read : (goes : Bool) → (ℕ → Row) → Progress → Ended → Type 0
-  Read true rows q e = Goes rows q e
-  Read false rows q e = Stops rows q e
+  -- How a component that has been read ends.
+  abbrev pub Ends : (ℕ → Row) → Progress → (place : ℕ) → Signature → Option Progress → Type 0
+  Ends rows q place w None = Stops rows q place w
+  Ends rows q place w (Some p) = Goes rows q w p
+
+  abbrev pub Read : (ℕ → Row) → Progress → Result Ended Refusal → Type 0
+  Read rows q (Ok e) = Ends rows q e.place e.row e.next
+  Read rows q (Err r) = rest file n (run rows q) q.at ≡ refused (refusal (number r.fault) r.position)

@@ -1,9 +1,10 @@
 -- The components whose rows are wanted, one after the other: those of the instances ahead, or so many from the first on.
 -- Assumes nothing.
-use Rattle.std.specs.Prelude.{ℕ, zero, suc, ◌+◌, ◌-◌, ◌*◌, ◌/◌, ◌≤◌, ◌<◌, true, false, cond, ◌≡◌, List, [], ◌∷◌, ltb, length, get_or}
+use Rattle.std.specs.Prelude.{ℕ, zero, suc, ◌+◌, ◌-◌, ◌*◌, ◌/◌, ◌≤◌, ◌<◌, ◌≡◌, List, [], ◌∷◌, length, get_or, Option, None, Some}
 use Rattle.signatures.specs.declared.Signature.{Signature}
 use Rattle.signatures.specs.Rows.{zero_row}
 use Rattle.reader.specs.Rows.{put_row}
+use Rattle.component.specs.declared.Following.{Following}
 use Rattle.component.specs.declared.Wanted.{Wanted}
 use Rattle.component.specs.Ahead.{ahead}
 
@@ -12,24 +13,32 @@ unfoldable pub in_order : (left c : ℕ) → List ℕ
 in_order zero c = []
 in_order (suc left) c = c ∷ in_order left (suc c)
 
-abbrev pub later : List ℕ → Wanted → List ℕ
-later file w = cond w.every (in_order (w.end - (w.component + 1)) (w.component + 1)) (ahead file (w.end - w.from) w.from (w.place + 1))
+-- What follows component c, whose row goes to this place.
+abbrev pub follow : List ℕ → Following → (c place : ℕ) → List ℕ
+follow file (Following.Components end) c place = in_order (end - (c + 1)) (c + 1)
+follow file (Following.Instances from end) c place = ahead file (end - from) from (place + 1)
 
-abbrev pub wanted : List ℕ → Wanted → List ℕ
-wanted file w = cond w.goes (w.component ∷ later file w) []
+abbrev pub later : List ℕ → Wanted → List ℕ
+later file w = follow file w.following w.component w.place
+
+abbrev pub wanted : List ℕ → Option Wanted → List ℕ
+wanted file None = []
+wanted file (Some w) = w.component ∷ later file w
 
 -- So many components, from the first on.
-abbrev pub every_below : ℕ → Wanted
-every_below count = record { every = true; component = 0; place = 0; from = 0; end = count; goes = ltb 0 count }
+abbrev pub every_below : ℕ → Option Wanted
+every_below zero = None
+every_below (suc more) = Some (record { component = 0; place = 0; following = Following.Components (suc more) })
 
--- The components are below 64, and the records that are looked at lie in the file.
+-- The components are below 64, each row of them at its own place, and the records that are looked at lie in the file.
+abbrev pub Follows : List ℕ → Following → (c place : ℕ) → Type 0
+Follows file (Following.Components end) c place = (place ≡ c) × (end ≤ 64)
+Follows file (Following.Instances from end) c place = (from ≤ end) × (end ≤ 3968) × (end ≤ 31 * (length file / 512))
+
 pub record Sound (file : List ℕ) (w : Wanted) : Type 0 where
   pub below : w.component < 64
   pub place : w.place < 64
-  pub in_place : w.every ≡ true → (w.place ≡ w.component) × (w.end ≤ 64)
-  pub at : w.from ≤ w.end
-  pub few : w.end ≤ 3968
-  pub within : w.every ≡ false → w.end ≤ 31 * (length file / 512)
+  pub follows : Follows file w.following w.component w.place
 
 -- Numbers with the rows of these components, from one place on.
 unfoldable pub gathered : (rows : List ℕ) → (table : List Signature) → (place : ℕ) → (components : List ℕ) → List ℕ

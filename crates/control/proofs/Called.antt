@@ -1,7 +1,7 @@
 -- What stands in the file for the component that is lowered: one invocation after another, and the components that they invoke.
 -- Assumes nothing.
 use Prim.Native.Nat.{ℕ, ◌+◌, ◌≤◌, ◌<◌}
-use mathlib.Core.Path.{◌≡◌, ap, ◌∙◌}
+use mathlib.Core.Path.{◌≡◌, sym, ap, ◌∙◌}
 use mathlib.Core.List.{List, ◌∷◌}
 use native.Mathlib.Omega.{arith}
 use native.Mathlib.Numerals.{add-one}
@@ -16,20 +16,24 @@ use Rattle.rows.specs.declared.Use.{Use}
 use Rattle.rows.specs.Rows as Rows
 use Rattle.rows.specs.Rows.{lasting, InRange}
 use Rattle.control.specs.declared.Built.{Built}
-use Rattle.control.specs.Stands.{design, called, Stands, Begins, UseOf}
+use Rattle.control.specs.declared.Uses.{Uses}
+use Rattle.control.specs.Stands.{design, called, Stands, Begins, UseOf, MayCall, Comes}
 use Rattle.control.proofs.Places.{one_more, next_within, no_more}
 use Rattle.control.proofs.Reached.{Lasts}
 use Rattle.control.proofs.Lists.{list_same}
 use Rattle.control.proofs.Found.{counts_of, input_found, lasts, lasting_most, connections_end}
 
-module _ {file rows : List ℕ} {b : Built} (h : Stands file rows b) where
+module _ {b : Built} (h : Stands b) where
+  abbrev file : List ℕ
+  file = b.judged.file.now
+
   abbrev E : Design
-  E = design file b
+  E = design b
 
   abbrev c : ℕ
   c = b.number
 
-  pub last_below : b.connections + b.outputs ≤ 3968
+  pub last_below : b.connections + b.row.outputs ≤ 3968
   last_below =
       let a = connections_end h.opened c h.there h.is_built in
       let k = next_below h.opened c h.there in
@@ -38,14 +42,14 @@ module _ {file rows : List ℕ} {b : Built} (h : Stands file rows b) where
       let e = h.connections_at in
       omega arith
 
-  pub first_below : b.first < 3968
+  pub first_below : b.row.first < 3968
   first_below =
       let a = component_below h.opened c h.there in
       let e = h.first_is in
       let m = h.opened.few in
       omega arith
 
-  pub few_ports : (b.inputs ≤ 16) × (b.outputs ≤ 16)
+  pub few_ports : (b.row.inputs ≤ 16) × (b.row.outputs ≤ 16)
   few_ports =
       let a = counts_of h.opened c h.there in
       let i = h.inputs_are in
@@ -53,19 +57,19 @@ module _ {file rows : List ℕ} {b : Built} (h : Stands file rows b) where
       (omega (arith, a.few_inputs), omega (arith, a.few_outputs))
 
   -- The invocations begin with the first, and end where the connections begin.
-  pub first_call : Begins file b 0 b.invocations
+  pub first_call : Begins b 0 b.invocations
   first_call = record { up_to = omega arith; at = h.invocations_at }
 
-  pub calls_done : {j i : ℕ} → Begins file b j i → b.connections ≤ i → j ≡ called file b
+  pub calls_done : {j i : ℕ} → Begins b j i → b.connections ≤ i → j ≡ called b
   calls_done {j} w k = let a = h.connections_at in let e = w.at in no_more E c j w.up_to (omega arith)
 
   -- How long the component itself lasts.
-  pub own_lasts : Lasts E c (lasting file b.first (b.inputs + b.outputs))
+  pub own_lasts : Lasts E c (lasting file b.row.first (b.row.inputs + b.row.outputs))
   own_lasts = rw (h.first_is, h.inputs_are, h.outputs_are) (lasts h.opened c h.there)
 
   -- Before the connections there is one invocation more.
-  module _ {j i : ℕ} (w : Begins file b j i) (t : i < b.connections) where
-    pub called_there : j < called file b
+  module _ {j i : ℕ} (w : Begins b j i) (t : i < b.connections) where
+    pub called_there : j < called b
     called_there = let a = h.connections_at in let e = w.at in one_more E c j w.up_to (omega arith)
 
     pub few_calls : j < 64
@@ -136,7 +140,7 @@ module _ {file rows : List ℕ} {b : Built} (h : Stands file rows b) where
           rw (g.number_is, g.record_is, g.instance_is, g.offset_is, g.inputs_are, g.first_is)
           (ap (λ (t : List Timetable.Row). go j (instance E c j) (offset E c j) ∷ t) (list_same (input_count E (invoked E c j)) _ _ (λ i p. rw (input_found h.opened (invoked E c j) invoked_there i p))))
 
-      pub next_call : Begins file b (j + 1) (i + (1 + u.inputs))
+      pub next_call : Begins b (j + 1) (i + (1 + u.inputs))
       next_call =
           let a = next_invocation h.opened c h.there j called_there in
           let d = g.inputs_are in
@@ -151,3 +155,42 @@ module _ {file rows : List ℕ} {b : Built} (h : Stands file rows b) where
           let d = h.connections_at in
           let q = ap (invocation_number E c) (add-one j) in
           omega arith
+
+-- The invocation that comes next, of component b.
+module _ {b : Built} {s : Uses} (same : s.of ≡ b) (m : MayCall s) where
+  pub next_begins : Begins b s.number s.record
+  next_begins = rw same at m.begins
+
+  pub none_after : s.of.connections ≤ s.record → b.connections ≤ s.record
+  none_after l = rw same at l
+
+  pub none_left : s.number ≡ called s.of → s.number ≡ called b
+  none_left e = e ∙ ap called same
+
+  module _ {u : Use} {t : Uses} (k : Comes s u t) where
+    pub next_use : UseOf (design b) b.number s.number u
+    next_use = rw same at k.is_use
+
+    pub next_record : u.record ≡ s.record
+    next_record = next_use.record_is ∙ sym next_begins.at
+
+    pub next_before : s.record < b.connections
+    next_before = rw same at k.before
+
+    next_stands : Stands b
+    next_stands = rw same at m.stands
+
+    pub next_range : InRange b.judged.file.now u
+    next_range = in_range next_stands next_begins next_before next_use
+
+    pub next_outputs : u.outputs ≤ 16
+    next_outputs = few_outputs next_stands next_begins next_before next_use
+
+    pub next_lasting : lasting b.judged.file.now u.first (u.inputs + u.outputs) ≤ 1024
+    next_lasting = use_lasting next_stands next_begins next_before next_use
+
+    pub next_ends : s.record + (1 + u.inputs) ≤ b.connections
+    next_ends = call_within next_stands next_begins next_before next_use
+
+    pub next_same : t.of ≡ b
+    next_same = k.same ∙ same

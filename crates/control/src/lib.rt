@@ -1,127 +1,140 @@
 // A built component of a judged file: where its records stand, how many states it has, and the control rows of its invocations.
 #![tactic(auto)]
 
-ghost use Rattle.std.specs.Prelude.{◌≡◌, ◌-◌, ◌*◌, ◌≤◌, ◌<◌, length, ◌&&◌, ltb};
-ghost use Rattle.timeline.specs.Design.{built, class};
-ghost use Rattle.reader.specs.Rows.{row_in};
+ghost use Rattle.std.specs.Prelude.{◌≡◌, ◌-◌, ◌*◌, ◌≤◌, ◌<◌, length, false, MatchOption};
+ghost use Rattle.std.specs.Iterator.{at_most};
 ghost use Rattle.timetable.specs.States.{states};
 ghost use Rattle.timetable.specs.Bytes.{rows_bytes};
 ghost use Rattle.groups.specs.Groups.{design_of, Opened};
-ghost use Rattle.control.specs.Stands.{design, called, rows_called, Stands, Begins, UseOf};
+ghost use Rattle.control.specs.Stands.{can_lower, design, called, rows_called, Stands, Begins, UseOf, MayCall, Gives};
 
+use groups::Judged;
 use rows::Use;
+use signatures::Signature;
 
-// A built component: how many records the file has, the component's number and what its row in the table says, and the record at which each of its groups begins.
+// A built component of a judged file: its number, its row in the table, and the record at which each of its groups begins.
+// `Stands` is in the contracts and not a ghost field, since the fact of such a field must have one proof at most, and no proof of that is
+// found where `Lawful` goes by cases (`SourceRange`). As `∥ .. ∥₁` each proof about these methods would have to take it out first.
 #[derive(Clone, Copy)]
-pub struct Built {
-    pub records: usize,
+pub struct Built<'a> {
+    pub judged: Judged<'a>,
     pub number: usize,
-    pub delay: u16,
-    pub inputs: u16,
-    pub outputs: u16,
-    pub first: u16,
+    pub row: Signature,
     pub instances: usize,
     pub invocations: usize,
     pub connections: usize,
 }
 
-fn size(x: u16) -> usize
-    ensures { (result ≡ x) × (result < 65536) }
-{
-    x as usize
+// The invocations of a built component, one after another: the number of the next, and that of its record.
+#[derive(Drop)]
+struct Uses<'a> {
+    of: Built<'a>,
+    number: u16,
+    record: usize,
 }
 
-fn half(x: usize) -> u16
-    requires { x < 65536 }
-    ensures { result ≡ x }
-{
-    x as u16
-}
+impl Iterator for Uses<'_> {
+    type Item = Use;
 
-// Invocation j, whose record is number i.
-fn use_at(file: &[u8], rows: &[u16], b: Built, j: u16, i: usize) -> Use
-    requires { Stands file.now rows.now b × Begins file.now b j i × (i < b.connections) }
-    ensures { UseOf (design file.now b) b.number j result }
-{
-    let call = groups::call_at(file, i);
-    let component = groups::component_at(file, b.instances + size(call.instance));
-    let row = reader::row_of(rows, size(component));
-    Use {
-        number: j,
-        record: half(i),
-        instance: call.instance,
-        offset: call.offset,
-        inputs: row.inputs,
-        outputs: row.outputs,
-        first: row.first,
+    ghost can_next = { MayCall };
+
+    ghost next_gives = { Gives };
+
+    ghost remaining = { λ s. at_most (s.of.connections - s.record) };
+
+    fn next(&mut self) -> Option<Use> {
+        let of = self.of;
+        if self.record >= of.connections {
+            return None;
+        }
+        let u = of.use_at(self.number, self.record);
+        self.record += 1 + usize::from(u.inputs);
+        self.number += 1;
+        Some(u)
     }
 }
 
-// "n is the greatest of 1, every own port's end, every k+1, and every k+e over all ports of its invocations."
-pub fn states(file: &[u8], rows: &[u16], b: Built) -> u16
-    requires { Stands file.now rows.now b }
-    ensures { result ≡ states (design file.now b) b.number }
-{
-    let mut most = rows::lasting(file, b.first, b.inputs + b.outputs);
-    let mut j: u16 = 0;
-    let mut i = b.invocations;
-    while i < b.connections {
-        let u = use_at(file, rows, b, j, i);
-        let lasting = rows::lasting(file, u.first, u.inputs + u.outputs);
-        most = rows::greater(most, u.offset + lasting);
-        i += 1 + size(u.inputs);
-        j += 1;
+impl<'a> Built<'a> {
+    // Invocation j, whose record is number i.
+    fn use_at(self, j: u16, i: usize) -> Use
+        requires { Stands self × Begins self j i × (i < self.connections) }
+        ensures { UseOf (design self.entry) self.entry.number j result }
+    {
+        let judged = self.judged;
+        let call = judged.call_at(i);
+        let component = judged.component_at(self.instances + usize::from(call.instance));
+        let row = judged.row(usize::from(component));
+        Use {
+            number: j,
+            // a record number, which is below 3,968
+            record: i as u16,
+            instance: call.instance,
+            offset: call.offset,
+            inputs: row.inputs,
+            outputs: row.outputs,
+            first: row.first,
+        }
     }
-    most
-}
 
-// The rows of all invocations.
-pub fn put_invocations(file: &[u8], rows: &[u16], b: Built, out: &mut [u8])
-    requires { Stands file.now rows.now b × (length out.old ≡ 16 * (b.connections - b.invocations)) }
-    ensures { out.new ≡ rows_bytes (rows_called file.now b (called file.now b)) }
-{
-    let mut j: u16 = 0;
-    let mut i = b.invocations;
-    while i < b.connections {
-        let u = use_at(file, rows, b, j, i);
-        let inputs = size(u.inputs);
-        let at = 16 * (i - b.invocations);
-        rows::put_invocation(file, u, &mut out[at..at + (16 + 16 * inputs)]);
-        i += 1 + inputs;
-        j += 1;
+    // Its invocations.
+    fn uses(self) -> Uses<'a>
+        requires { Stands self }
+        ensures { MayCall result × (result.of ≡ self.entry) × (result.number ≡ 0) × (result.record ≡ self.entry.invocations) }
+    {
+        Uses {
+            of: self,
+            number: 0,
+            record: self.invocations,
+        }
     }
-}
 
-// Component c, which is built, and where the groups of its records begin.
-pub fn built_at(file: &[u8], rows: &[u16], components: usize, records: usize, c: usize) -> Built
-    requires { Opened file.now rows.now records × (components ≡ length (design_of file.now records)) × (c < components) × (class (design_of file.now records) c ≡ built) }
-    ensures { Stands file.now rows.now result × (result.records ≡ records) × (result.number ≡ c) }
-{
-    let row = reader::row_of(rows, c);
-    let instances = size(row.first) + 1 + size(row.inputs) + size(row.outputs);
-    let invocations = groups::past_instances(file, instances, records);
-    let end = groups::end_of(rows, components, records, c);
-    Built {
-        records,
-        number: c,
-        delay: row.delay,
-        inputs: row.inputs,
-        outputs: row.outputs,
-        first: row.first,
-        instances,
-        invocations,
-        connections: end - size(row.outputs),
+    // "n is the greatest of 1, every own port's end, every k+1, and every k+e over all ports of its invocations."
+    pub fn states(self) -> u16
+        requires { Stands self }
+        ensures { result ≡ states (design self.entry) self.entry.number }
+    {
+        let file = self.judged.file;
+        let row = self.row;
+        let mut most = rows::lasting(file, row.first, row.inputs + row.outputs);
+        for u in self.uses() {
+            most = most.max(u.offset + rows::lasting(file, u.first, u.inputs + u.outputs));
+        }
+        most
     }
-}
 
-// Whether component c is there and built.
-pub fn can_lower(rows: &[u16], components: usize, c: usize) -> bool
-    requires { (length rows.now ≡ 320) × (components ≤ 64) }
-    ensures { result ≡ (ltb c components && (row_in rows.now c).built) }
-{
-    if c < components {
-        let row = reader::row_of(rows, c);
-        return row.class != 0;
+    // The rows of all invocations.
+    pub fn put_invocations(self, out: &mut [u8])
+        requires { Stands self × (length out.old ≡ 16 * (self.connections - self.invocations)) }
+        ensures { out.new ≡ rows_bytes (rows_called self.entry (called self.entry)) }
+    {
+        let file = self.judged.file;
+        for u in self.uses() {
+            let at = 16 * (usize::from(u.record) - self.invocations);
+            rows::put_invocation(file, u, &mut out[at..at + 16 + 16 * usize::from(u.inputs)]);
+        }
     }
-    false
+
+    // Component c, if it is there and built, and where the groups of its records begin.
+    #[tactic(auto, using(crate::proofs::Found::leaf_there))]
+    pub fn at(judged: Judged<'a>, c: usize) -> Option<Built<'a>>
+        requires { Opened judged.file.now judged.rows.now judged.records × (judged.components ≡ length (design_of judged.file.now judged.records)) }
+        ensures { MatchOption result (can_lower (design_of judged.entry.file.now judged.entry.records) c ≡ false) (λ b. Stands b × (b.judged ≡ judged.entry) × (b.number ≡ c)) }
+    {
+        if c >= judged.components {
+            return None;
+        }
+        let row = judged.row(c);
+        if row.class == 0 {
+            return None;
+        }
+        let instances = judged.past_ports(c);
+        Some(Built {
+            judged,
+            number: c,
+            row,
+            instances,
+            invocations: judged.past_instances(instances),
+            connections: judged.past_invocations(c),
+        })
+    }
 }

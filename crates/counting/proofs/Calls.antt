@@ -10,15 +10,16 @@ use Rattle.timeline.specs.Design.{Design, built, class, input_count, instance_co
 use Rattle.timeline.specs.Flat.{row_count, units_before}
 use Rattle.entry.specs.Numbers.{component_number, invocation_number}
 use Rattle.reader.specs.Rows.{row_in}
-use Rattle.groups.specs.Groups.{design_of, first_number, second_number, past_instances, end_of}
+use Rattle.groups.specs.Groups.{design_of, first_number, second_number, past_ports, past_instances, end_of}
 use Rattle.groups.proofs.Order.{none_behind}
+use Rattle.expansion.specs.declared.Note.{Note}
 use Rattle.expansion.specs.Noted.{capped}
-use Rattle.counting.specs.Known.{OpenedAt, past_ports, Counts, UnitsBefore, kept_note, next_note, Noting}
+use Rattle.counting.specs.Known.{OpenedAt, Counts, UnitsBefore, kept_note, next_note, Noting}
 use Rattle.counting.proofs.Places.{present, few_components, few_instances, outputs_are, inputs_are, calls_end, in_order, begins, instances_pass, Read, invocation_read}
 use Rattle.counting.proofs.Turns.{noting_none, noting_more, units_of}
 
 -- At record i, that of invocation `number`.
-pub record Going (D : Design) (c a i z s : ℕ) (old new : List ℕ) : Type 0 where
+pub record Going (D : Design) (c a i z s : ℕ) (old new : List Note) : Type 0 where
   pub number : ℕ
   pub place : i ≡ invocation_number D c number
   pub noting : Noting D c number a z s old new
@@ -34,12 +35,12 @@ module _ {file table : List ℕ} {components n c : ℕ} (o : OpenedAt file table
     last_is : last ≡ invocation_number D c (invocation_count D c)
     last_is = let e = calls_end o b in let f = outputs_are o in omega arith
 
-    pub going_none : {i a : ℕ} (noted : List ℕ) → i ≡ past_instances file (n - first) first → a ≤ component_number D c → length noted ≡ 11904 → Going D c a i a 0 noted noted
+    pub going_none : {i a : ℕ} (noted : List Note) → i ≡ past_instances file (n - first) first → a ≤ component_number D c → length noted ≡ 3968 → Going D c a i a 0 noted noted
     going_none {i} {a} noted e l w =
         let q = in_order D c (present o) in
         record { number = 0; place = (instances_pass o ef e).1; noting = noting_none o.opened.lawful c (present o) a noted (omega arith) w }
 
-    module _ {i a z s : ℕ} {old mid : List ℕ} (g : Going D c a i z s old mid) where
+    module _ {i a z s : ℕ} {old mid : List Note} (g : Going D c a i z s old mid) where
       pub going_end : last ≤ i → Noting D c (invocation_count D c) a z s old mid
       going_end h =
           let e = last_is in
@@ -92,7 +93,7 @@ module _ {file table : List ℕ} {components n c : ℕ} (o : OpenedAt file table
                 let e : k ≡ instance D c g.number = v.1 ∙ stands.instance_is in
                 rw e (units (instance D c g.number) stands.named ∙ ap capped (units_of o.opened.lawful c (present o) g.number))
 
-            pub going_more : {inputs z₁ s₁ : ℕ} {new : List ℕ} → inputs ≡ (row_in table d).inputs → (z₁ ≡ next_note z (get_or rows d 0)) × (new ≡ kept_note mid z (get_or rows d 0) component off (get_or before k 0)) → s₁ ≡ capped (s + get_or rows d 0)
+            pub going_more : {inputs z₁ s₁ : ℕ} {new : List Note} → inputs ≡ (row_in table d).inputs → (z₁ ≡ next_note z (get_or rows d 0)) × (new ≡ kept_note mid z (get_or rows d 0) (record { component = component; offset = off; units = get_or before k 0 })) → s₁ ≡ capped (s + get_or rows d 0)
                 → Going D c a (i + (1 + inputs)) z₁ s₁ old new
             going_more {z₁ = z₁} {s₁ = s₁} {new = new} ei e es =
                 let r = stands in
@@ -105,6 +106,6 @@ module _ {file table : List ℕ} {components n c : ℕ} (o : OpenedAt file table
                 record {
                   number = suc g.number;
                   place = omega arith;
-                  noting = noting_more o.opened.lawful c (present o) g.number a z s old mid g.noting left (get_or rows d 0) component off (get_or before k 0)
+                  noting = noting_more o.opened.lawful c (present o) g.number a z s old mid g.noting left (get_or rows d 0) (record { component = component; offset = off; units = get_or before k 0 })
                       rows_count (v.0 ∙ r.component_is) (v.2 ∙ r.offset_is) units_count free z₁ s₁ new e.0 e.1 es;
                 }

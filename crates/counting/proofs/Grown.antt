@@ -12,10 +12,12 @@ use Rattle.timeline.specs.Rules.{Lawful}
 use Rattle.timeline.specs.Flat.{row_count, unit_count}
 use Rattle.timeline.proofs.Rows.{row_count_leaf, unit_count_leaf}
 use Rattle.entry.specs.Numbers.{component_number}
-use Rattle.expansion.specs.Notes.{first_note}
+use Rattle.expansion.specs.declared.Note.{Note}
+use Rattle.expansion.specs.Notes.{no_note, first_note}
 use Rattle.expansion.specs.Noted.{capped, NotesOf, Alike, Noted}
 use Rattle.expansion.proofs.Noting.{notes_start, notes_alike}
 use Rattle.groups.specs.Groups.{design_of}
+use Rattle.counting.specs.declared.Totals.{Totals}
 use Rattle.counting.specs.Known.{OpenedAt, Counts, Noting, Known}
 use Rattle.counting.proofs.Places.{in_order, present, few_components, component_within}
 use Rattle.counting.proofs.Turns.{rows_all}
@@ -36,7 +38,7 @@ module _ (ends : List ℕ) (c z : ℕ) where
   unfolding first_note
   first_last l = get_or-set_same ends (c + 1) z 0 l
 
-module _ (D : Design) (noted ends : List ℕ) (c : ℕ) (n : Noted D noted ends c) where
+module _ (D : Design) (noted : List Note) (ends : List ℕ) (c : ℕ) (n : Noted D noted ends c) where
   rising_to : (x d : ℕ) → x + d ≡ c → first_note ends d ≤ first_note ends c
   rising_to zero d e = let q : d ≡ c = omega arith in rw q (omega arith)
   rising_to (suc x) d e =
@@ -44,7 +46,7 @@ module _ (D : Design) (noted ends : List ℕ) (c : ℕ) (n : Noted D noted ends 
       let o = (n.notes d (omega arith)).order in
       omega arith
 
-  pub noted_more : (new : List ℕ) (z : ℕ) → Alike new noted (first_note ends c) → NotesOf D new c (invocation_count D c) (first_note ends c) z → z ≤ 3968 → c + 1 < length ends
+  pub noted_more : (new : List Note) (z : ℕ) → Alike new noted (first_note ends c) → NotesOf D new c (invocation_count D c) (first_note ends c) z → z ≤ 3968 → c + 1 < length ends
       → Noted D new (set ends (c + 1) z) (c + 1)
   noted_more new z s m w l = record { within = λ d b. within d b (ℕ_discrete d c); notes = λ d b. notes d b (ℕ_discrete d c) }
     where
@@ -59,7 +61,7 @@ module _ (D : Design) (noted ends : List ℕ) (c : ℕ) (n : Noted D noted ends 
           rw (first_same ends c z (d + 1) (omega arith), first_same ends c z d (omega arith))
           (notes_alike D d new noted (invocation_count D d) (first_note ends d) (first_note ends (d + 1)) (λ i k. s i (omega arith)) (n.notes d (omega arith)))
 
-module _ {file table : List ℕ} {components n c : ℕ} (o : OpenedAt file table components n c) {rows units noted ends : List ℕ} (k : Known (design_of file n) c rows units noted ends) where
+module _ {file table : List ℕ} {components n c : ℕ} (o : OpenedAt file table components n c) {old : Totals} (k : Known (design_of file n) c old) where
   abbrev D : Design
   D = design_of file n
 
@@ -72,7 +74,8 @@ module _ {file table : List ℕ} {components n c : ℕ} (o : OpenedAt file table
   end : component_number D (c + 1) ≤ 3968
   end = let w = component_within o in let f = o.opened.few in omega arith
 
-  pub known_leaf : class D c ≡ leaf → Known D (c + 1) (set rows c 1) (set units c 1) noted (set ends (c + 1) (first_note ends c))
+  pub known_leaf : class D c ≡ leaf
+      → Known D (c + 1) (record { rows = set old.rows c 1; units = set old.units c 1; notes = record { noted = old.notes.noted; ends = set old.notes.ends (c + 1) (first_note old.notes.ends c) } })
   known_leaf e =
       let f = few in
       let m = end in
@@ -83,18 +86,18 @@ module _ {file table : List ℕ} {components n c : ℕ} (o : OpenedAt file table
       let p = k.place in
       let z = (lawful.whole c (present o)).leaf_invocations e in
       record {
-        row_counts = counts_more (row_count D) c 1 rows k.row_counts (omega arith) (rw (row_count_leaf lawful c (present o) e));
-        unit_counts = counts_more (unit_count D) c 1 units k.unit_counts (omega arith) (rw (unit_count_leaf lawful c (present o) e));
-        notes = noted_more D noted ends c k.notes noted (first_note ends c) (λ i b. refl) (rw z (notes_start D c noted (first_note ends c))) (omega arith) (omega arith);
-        place = rw (first_last ends c (first_note ends c) (omega arith)) (omega arith);
+        row_counts = counts_more (row_count D) c 1 old.rows k.row_counts (omega arith) (rw (row_count_leaf lawful c (present o) e));
+        unit_counts = counts_more (unit_count D) c 1 old.units k.unit_counts (omega arith) (rw (unit_count_leaf lawful c (present o) e));
+        notes = noted_more D old.notes.noted old.notes.ends c k.notes old.notes.noted (first_note old.notes.ends c) (λ i b. refl) (rw z (notes_start D c old.notes.noted (first_note old.notes.ends c))) (omega arith) (omega arith);
+        place = rw (first_last old.notes.ends c (first_note old.notes.ends c) (omega arith)) (omega arith);
         long_rows = simp length-set lr;
         long_units = simp length-set lu;
         long_noted = k.long_noted;
         long_ends = simp length-set le;
       }
 
-  pub known_built : {s u z : ℕ} {new : List ℕ} → class D c ≡ built → u ≡ capped (unit_count D c) → Noting D c (invocation_count D c) (first_note ends c) z s noted new
-      → Known D (c + 1) (set rows c s) (set units c u) new (set ends (c + 1) z)
+  pub known_built : {s u z : ℕ} {new : List Note} → class D c ≡ built → u ≡ capped (unit_count D c) → Noting D c (invocation_count D c) (first_note old.notes.ends c) z s old.notes.noted new
+      → Known D (c + 1) (record { rows = set old.rows c s; units = set old.units c u; notes = record { noted = new; ends = set old.notes.ends (c + 1) z } })
   known_built {s} {u} {z} {new} e eu t =
       let f = few in
       let m = end in
@@ -104,10 +107,10 @@ module _ {file table : List ℕ} {components n c : ℕ} (o : OpenedAt file table
       let q = in_order D c (present o) in
       let p = t.place in
       record {
-        row_counts = counts_more (row_count D) c s rows k.row_counts (omega arith) (t.rows_are ∙ ap capped (rows_all lawful c (present o) e));
-        unit_counts = counts_more (unit_count D) c u units k.unit_counts (omega arith) eu;
-        notes = noted_more D noted ends c k.notes new z t.kept t.notes (omega arith) (omega arith);
-        place = rw (first_last ends c z (omega arith)) (omega arith);
+        row_counts = counts_more (row_count D) c s old.rows k.row_counts (omega arith) (t.rows_are ∙ ap capped (rows_all lawful c (present o) e));
+        unit_counts = counts_more (unit_count D) c u old.units k.unit_counts (omega arith) eu;
+        notes = noted_more D old.notes.noted old.notes.ends c k.notes new z t.kept t.notes (omega arith) (omega arith);
+        place = rw (first_last old.notes.ends c z (omega arith)) (omega arith);
         long_rows = simp length-set lr;
         long_units = simp length-set lu;
         long_noted = t.long;
@@ -115,7 +118,7 @@ module _ {file table : List ℕ} {components n c : ℕ} (o : OpenedAt file table
       }
 
 -- No component has been counted.
-pub known_none : (D : Design) → Known D 0 (replicate 64 0) (replicate 64 0) (replicate 11904 0) (replicate 65 0)
+pub known_none : (D : Design) → Known D 0 (record { rows = replicate 64 0; units = replicate 64 0; notes = record { noted = replicate 3968 no_note; ends = replicate 65 0 } })
 unfolding first_note
 known_none D = record {
   row_counts = λ c h. absurd (omega arith);
@@ -124,6 +127,6 @@ known_none D = record {
   place = rw (get_or-replicate {A = ℕ} 65 0 0 0 (omega arith)) (omega arith);
   long_rows = length-replicate {A = ℕ} 64 0;
   long_units = length-replicate {A = ℕ} 64 0;
-  long_noted = length-replicate {A = ℕ} 11904 0;
+  long_noted = length-replicate {A = Note} 3968 no_note;
   long_ends = length-replicate {A = ℕ} 65 0;
 }

@@ -13,10 +13,10 @@ use Rattle.entry.proofs.Laws.{next_component}
 use Rattle.reading.specs.Tests.{is_built}
 use Rattle.reading.specs.Reader.{Row}
 use Rattle.reader.specs.Rows.{row_in}
-use Rattle.groups.specs.Groups.{design_of, Lies, first_number, second_number, past_instances, end_of}
+use Rattle.groups.specs.Groups.{design_of, Lies, first_number, second_number, past_ports, past_instances, end_of}
 use Rattle.groups.proofs.Laws.{lies, row_is, instance_below, invocation_below, instance_says, invocation_says, next_invocation, component_ends, end_is, next_below, past_is}
 use Rattle.groups.proofs.Order.{invocations_rise}
-use Rattle.counting.specs.Known.{OpenedAt, past_ports}
+use Rattle.counting.specs.Known.{OpenedAt}
 
 module _ (D : Design) (c : ℕ) where
   pub instance_on : (m : ℕ) → instance_number D c m ≡ instance_number D c 0 + m

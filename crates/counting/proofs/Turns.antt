@@ -1,6 +1,6 @@
 -- One instance more, and one invocation more.
 -- Assumes nothing.
-use Prim.Native.Nat.{ℕ, suc, ◌+◌, ◌*◌, ◌≤◌, ◌<◌}
+use Prim.Native.Nat.{ℕ, suc, ◌+◌, ◌≤◌, ◌<◌}
 use mathlib.Core.Path.{◌≡◌, refl, ap, sym, ◌∙◌}
 use mathlib.Core.List.{List}
 use native.Mathlib.Omega.{arith}
@@ -15,9 +15,10 @@ use Rattle.timeline.specs.Flat.{row_count, unit_count, units_before}
 use Rattle.timeline.proofs.Rows.{row_count_built, unit_count_built, units_before_sum}
 use Rattle.entry.specs.Numbers.{invocation_number}
 use Rattle.groups.proofs.Order.{invocations_rise}
+use Rattle.expansion.specs.declared.Note.{Note}
 use Rattle.expansion.specs.Notes.{put_note}
 use Rattle.expansion.specs.Noted.{capped}
-use Rattle.expansion.proofs.Noting.{notes_start, notes_alike, notes_skip, notes_next, put_alike, put_length, put_component, put_offset, put_units}
+use Rattle.expansion.proofs.Noting.{notes_start, notes_alike, notes_skip, notes_next, put_alike, put_length, put_there}
 use Rattle.counting.specs.Known.{units_to, UnitsBefore, rows_to, kept_note, next_note, Noting}
 
 -- ---- instances
@@ -67,14 +68,14 @@ module _ {D : Design} (lawful : Lawful D) (c : ℕ) (h : c < length D) where
   units_of j = sym (units_before_sum lawful c h j)
 
   -- ---- invocations
-  pub noting_none : (a : ℕ) (noted : List ℕ) → a ≤ invocation_number D c 0 → length noted ≡ 11904 → Noting D c 0 a a 0 noted noted
+  pub noting_none : (a : ℕ) (noted : List Note) → a ≤ invocation_number D c 0 → length noted ≡ 3968 → Noting D c 0 a a 0 noted noted
   unfolding rows_to
   noting_none a noted p w = record { few = omega arith; notes = notes_start D c noted a; rows_are = refl; place = p; kept = λ i l. refl; long = w }
 
-  module _ (j a z s : ℕ) (old mid : List ℕ) (t : Noting D c j a z s old mid) (l : j < invocation_count D c)
-      (n component off units : ℕ) (en : n ≡ capped (row_count D (invoked D c j))) (ec : component ≡ invoked D c j) (eo : off ≡ offset D c j) (eu : units ≡ capped (units_before D c j))
+  module _ (j a z s : ℕ) (old mid : List Note) (t : Noting D c j a z s old mid) (l : j < invocation_count D c)
+      (n : ℕ) (note : Note) (en : n ≡ capped (row_count D (invoked D c j))) (ec : note.component ≡ invoked D c j) (eo : note.offset ≡ offset D c j) (eu : note.units ≡ capped (units_before D c j))
       (below : z < 3968) where
-    room : 3 * z + 3 ≤ length mid
+    room : z < length mid
     room = let w = t.long in omega arith
 
     sums : capped (s + n) ≡ capped (rows_to D c (suc j))
@@ -89,32 +90,32 @@ module _ {D : Design} (lawful : Lawful D) (c : ℕ) (h : c < length D) where
         let v = rw w at q in
         record { few = omega arith; notes = notes_skip D c mid j a z t.notes (omega arith); rows_are = sums; place = omega arith; kept = t.kept; long = t.long }
 
-    noted : 0 < n → Noting D c (suc j) a (z + 1) (capped (s + n)) old (put_note mid z component off units)
+    noted : 0 < n → Noting D c (suc j) a (z + 1) (capped (s + n)) old (put_note mid z note)
     noted e =
         let p = t.place in
         let o = t.notes.order in
         let q = invocations_rise D c 1 j in
         let w : 1 + j ≡ suc j = omega arith in
         let v = rw w at q in
-        let m = notes_alike D c (put_note mid z component off units) mid j a z (put_alike mid z component off units) t.notes in
+        let m = notes_alike D c (put_note mid z note) mid j a z (put_alike mid z note) t.notes in
         record {
           few = omega arith;
-          notes = notes_next D c (put_note mid z component off units) j a z m lawful h l (record {
+          notes = notes_next D c (put_note mid z note) j a z m lawful h l (record {
             live = omega arith;
-            component_is = put_component mid z component off units room ∙ ec;
-            offset_is = put_offset mid z component off units room ∙ eo;
-            units_is = put_units mid z component off units room ∙ eu;
+            component_is = ap (λ (x : Note). x.component) (put_there mid z note room) ∙ ec;
+            offset_is = ap (λ (x : Note). x.offset) (put_there mid z note room) ∙ eo;
+            units_is = ap (λ (x : Note). x.units) (put_there mid z note room) ∙ eu;
           });
           rows_are = sums;
           place = omega arith;
-          kept = λ i b. put_alike mid z component off units i (omega arith) ∙ t.kept i b;
-          long = put_length mid z component off units ∙ t.long;
+          kept = λ i b. put_alike mid z note i (omega arith) ∙ t.kept i b;
+          long = put_length mid z note ∙ t.long;
         }
 
     -- The next invocation, with a note where it has rows.
-    pub noting_more : (z₁ s₁ : ℕ) (new : List ℕ) → z₁ ≡ next_note z n → new ≡ kept_note mid z n component off units → s₁ ≡ capped (s + n) → Noting D c (suc j) a z₁ s₁ old new
+    pub noting_more : (z₁ s₁ : ℕ) (new : List Note) → z₁ ≡ next_note z n → new ≡ kept_note mid z n note → s₁ ≡ capped (s + n) → Noting D c (suc j) a z₁ s₁ old new
     noting_more z₁ s₁ new ez e es = rw (ez, e, es) (go (ℕ_discrete n 0))
       where
-        go : Dec (n ≡ 0) → Noting D c (suc j) a (next_note z n) (capped (s + n)) old (kept_note mid z n component off units)
+        go : Dec (n ≡ 0) → Noting D c (suc j) a (next_note z n) (capped (s + n)) old (kept_note mid z n note)
         go (yes q) = rw (eq-eqb n 0 q) (skipped q)
         go (no q) = rw (ne_eqb n 0 q) (noted (omega arith))

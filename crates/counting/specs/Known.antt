@@ -4,10 +4,12 @@ use Rattle.std.specs.Prelude.{ℕ, ◌+◌, ◌≤◌, ◌<◌, cond, ◌≡◌,
 use Rattle.timeline.specs.Design.{Design, invocation_count, made_of, invoked}
 use Rattle.timeline.specs.Flat.{sum_below, row_count, unit_count}
 use Rattle.entry.specs.Numbers.{component_number, invocation_number}
-use Rattle.reading.specs.Reader.{Row}
+use Rattle.groups.specs.declared.Judged.{Judged}
 use Rattle.groups.specs.Groups.{design_of, Opened}
+use Rattle.expansion.specs.declared.Note.{Note}
 use Rattle.expansion.specs.Notes.{put_note, first_note}
 use Rattle.expansion.specs.Noted.{capped, NotesOf, Alike, Noted}
+use Rattle.counting.specs.declared.Totals.{Totals}
 
 -- The file has been judged, and c is one of its components.
 pub record OpenedAt (file table : List ℕ) (components n c : ℕ) : Type 0 where
@@ -15,9 +17,12 @@ pub record OpenedAt (file table : List ℕ) (components n c : ℕ) : Type 0 wher
   pub all : components ≡ length (design_of file n)
   pub there : c < components
 
--- The record behind the ports of a component.
-abbrev pub past_ports : Row → ℕ
-past_ports w = w.first + 1 + w.inputs + w.outputs
+-- The design of a judged file, and that c is one of its components.
+abbrev pub design : Judged → Design
+design j = design_of j.file.now j.records
+
+abbrev pub Open : Judged → (c : ℕ) → Type 0
+Open j c = OpenedAt j.file.now j.rows.now j.components j.records c
 
 -- The counts of the components below k, each stopped at 4,097.
 abbrev pub Counts : (count : ℕ → ℕ) → (k : ℕ) → List ℕ → Type 0
@@ -35,28 +40,28 @@ unfoldable pub rows_to : Design → (c j : ℕ) → ℕ
 rows_to D c j = sum_below j (λ i. row_count D (invoked D c i))
 
 -- A note for an invocation that has rows, none for another; and where the next note goes.
-abbrev pub kept_note : (noted : List ℕ) (e rows component offset units : ℕ) → List ℕ
-kept_note noted e rows component offset units = cond (eqb rows 0) noted (put_note noted e component offset units)
+abbrev pub kept_note : (noted : List Note) (e rows : ℕ) (note : Note) → List Note
+kept_note noted e rows note = cond (eqb rows 0) noted (put_note noted e note)
 
 abbrev pub next_note : (e rows : ℕ) → ℕ
 next_note e rows = cond (eqb rows 0) e (e + 1)
 
 -- The first j invocations of component c have their notes from place a to z, fewer than the records so far; the notes before are as they were; `rows` is how many rows they have together.
-pub record Noting (D : Design) (c j a z rows : ℕ) (old new : List ℕ) : Type 0 where
+pub record Noting (D : Design) (c j a z rows : ℕ) (old new : List Note) : Type 0 where
   pub few : j ≤ invocation_count D c
   pub notes : NotesOf D new c j a z
   pub rows_are : rows ≡ capped (rows_to D c j)
   pub place : z ≤ invocation_number D c j
   pub kept : Alike new old a
-  pub long : length new ≡ 11904
+  pub long : length new ≡ 3968
 
 -- The components below k have been counted, and there are no more notes than records.
-pub record Known (D : Design) (k : ℕ) (rows units noted ends : List ℕ) : Type 0 where
-  pub row_counts : Counts (row_count D) k rows
-  pub unit_counts : Counts (unit_count D) k units
-  pub notes : Noted D noted ends k
-  pub place : first_note ends k ≤ component_number D k
-  pub long_rows : length rows ≡ 64
-  pub long_units : length units ≡ 64
-  pub long_noted : length noted ≡ 11904
-  pub long_ends : length ends ≡ 65
+pub record Known (D : Design) (k : ℕ) (totals : Totals) : Type 0 where
+  pub row_counts : Counts (row_count D) k totals.rows
+  pub unit_counts : Counts (unit_count D) k totals.units
+  pub notes : Noted D totals.notes.noted totals.notes.ends k
+  pub place : first_note totals.notes.ends k ≤ component_number D k
+  pub long_rows : length totals.rows ≡ 64
+  pub long_units : length totals.units ≡ 64
+  pub long_noted : length totals.notes.noted ≡ 3968
+  pub long_ends : length totals.notes.ends ≡ 65

@@ -2,29 +2,19 @@
 #![tactic(auto)]
 
 ghost use Rattle.std.specs.Prelude.{◌≡◌};
-ghost use Rattle.records.specs.Encoded.{class_byte};
 ghost use Rattle.records.specs.Says as Says;
 ghost use Rattle.encoding.specs.Spelled.{with_fields, with_constant, with_source, with_port, spelled};
 
-use records::{Class, Port, Record, Source};
+use numbers::Number;
+use records::{Port, Record, Source};
 
-fn class_byte(k: Class) -> u8
-    ensures { result ≡ class_byte (Says.class k) }
-{
-    match k {
-        Class::Leaf => 0,
-        Class::Built => 1,
-    }
-}
-
-// A record of this kind with byte 1, the numbers in bytes 2–3 and 4–5, and byte 6.
+// A record of this kind with byte 1, the numbers in bytes 2–3 and 4–5, and byte 6. The kind is byte 0, as document 01 numbers the kinds:
+// an enum would be turned into it here and nowhere else.
 fn with_fields(kind: u8, one: u8, x: u16, y: u16, six: u8) -> [u8; 16]
     ensures { result ≡ with_fields kind one x y six }
 {
-    let x0 = (x % 256) as u8;
-    let x1 = (x / 256 % 256) as u8;
-    let y0 = (y % 256) as u8;
-    let y1 = (y / 256 % 256) as u8;
+    let [x0, x1] = x.to_le_bytes();
+    let [y0, y1] = y.to_le_bytes();
     [kind, one, x0, x1, y0, y1, six, 0, 0, 0, 0, 0, 0, 0, 0, 0]
 }
 
@@ -32,15 +22,9 @@ fn with_fields(kind: u8, one: u8, x: u16, y: u16, six: u8) -> [u8; 16]
 fn with_constant(kind: u8, v: u64) -> [u8; 16]
     ensures { result ≡ with_constant kind v }
 {
-    let v0 = (v % 256) as u8;
-    let v1 = (v / 256 % 256) as u8;
-    let v2 = (v / 256 / 256 % 256) as u8;
-    let v3 = (v / 256 / 256 / 256 % 256) as u8;
-    let v4 = (v / 256 / 256 / 256 / 256 % 256) as u8;
-    let v5 = (v / 256 / 256 / 256 / 256 / 256 % 256) as u8;
-    let v6 = (v / 256 / 256 / 256 / 256 / 256 / 256 % 256) as u8;
-    let v7 = (v / 256 / 256 / 256 / 256 / 256 / 256 / 256 % 256) as u8;
-    [kind, 2, 0, 0, 0, 0, 0, 0, v0, v1, v2, v3, v4, v5, v6, v7]
+    let mut record = [kind, 2, 0, 0, 0, 0, 0, 0, 0, 0, 0, 0, 0, 0, 0, 0];
+    v.write(&mut record[8..]);
+    record
 }
 
 fn with_source(kind: u8, s: Source) -> [u8; 16]
@@ -60,20 +44,17 @@ fn with_port(side: u8, p: Port) -> [u8; 16]
 }
 
 // The sixteen bytes of a record; zeros, which are no record either, for a wrong one.
-#[tactic(auto, unfolding(records::specs::Encoded::encoded))]
+#[tactic(auto, using(crate::proofs::Sources::source_spelled), unfolding(records::specs::Encoded::encoded))]
 pub fn encode(x: Record) -> [u8; 16]
     ensures { result ≡ spelled (Says.says x) }
 {
     match x {
-        Record::Component(k, delay) => with_fields(1, class_byte(k), delay, 0, 0),
+        Record::Component(class, delay) => with_fields(1, class as u8, delay, 0, 0),
         Record::Input(p) => with_port(0, p),
         Record::Output(p) => with_port(1, p),
         Record::Instance(component) => with_fields(3, 0, component, 0, 0),
         Record::Invocation(instance, offset) => with_fields(4, 0, instance, offset, 0),
-        Record::Argument(a) => {
-            let s = a.source;
-            with_source(5, s)
-        }
+        Record::Argument(a) => with_source(5, a.source),
         Record::Connection(s) => with_source(6, s),
         Record::Wrong => [0; 16],
     }

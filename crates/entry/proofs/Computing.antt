@@ -2,8 +2,7 @@
 -- give one verdict.
 -- Assumes nothing.
 use Rattle.std.specs.Prelude.{ℕ, suc, ◌≡◌, refl, List, [], ◌∷◌, map, length}
-use Rattle.answers.specs.declared.Refusal.{Refusal}
-use Rattle.answers.specs.Answer.{Answer, accepted, refused, Counts}
+use Rattle.answers.specs.Answer.{Answer, accepted, refused, Counts, Refusal}
 use Rattle.timeline.specs.Design.{Component, Port, Source, own, output_of, constant}
 use Rattle.entry.specs.Records.{Part, input, output, instance, invocation, argument, connection, Record, wrong, component, part}
 use Rattle.entry.specs.Entered.{Entered, nothing, after, enter, said}

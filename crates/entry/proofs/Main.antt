@@ -3,8 +3,7 @@
 -- Assumes nothing.
 use Rattle.std.specs.Prelude.{ℕ, ◌≤◌, ◌<◌, ◌≡◌, refl, List, ◌++◌, ◌↔◌, length}
 use Rattle.std.proofs.Common.{sym, ◌∙◌}
-use Rattle.answers.specs.declared.Refusal.{Refusal}
-use Rattle.answers.specs.Answer.{Answer, accepted, refused, Counts}
+use Rattle.answers.specs.Answer.{Answer, accepted, refused, Counts, Refusal}
 use Rattle.timeline.specs.Design.{Design}
 use Rattle.timeline.specs.Rules.{Whole, Lawful}
 use Rattle.entry.specs.Records.{Record, records}

@@ -6,8 +6,7 @@ use Rattle.std.proofs.Common.{sym, ◌∙◌}
 use Rattle.std.proofs.Math.Logic.{inl, inr, ⊎_elim}
 use Rattle.std.proofs.Math.ListN.{length}
 use native.Mathlib.Omega.{arith}
-use Rattle.answers.specs.declared.Refusal.{Refusal}
-use Rattle.answers.specs.Answer.{accepted, refused, Counts}
+use Rattle.answers.specs.Answer.{accepted, refused, Counts, Refusal}
 use Rattle.answers.specs.Once.{apart, one_refusal}
 use Rattle.entry.specs.Records.{Record, wrong}
 use Rattle.entry.specs.Entered.{Entered, nothing, enter, enter_all, said, design}

@@ -1,8 +1,7 @@
 -- Which answer a list of records is to have, said by the rules alone. (01, Answers)
 -- Assumes nothing.
 use Rattle.std.specs.Prelude.{ℕ, ◌<◌, ◌≡◌, List, [], ◌∷◌, ◌⊎◌, length, get_or, take}
-use Rattle.answers.specs.declared.Refusal.{Refusal}
-use Rattle.answers.specs.Answer.{Answer, accepted, refused, Counts}
+use Rattle.answers.specs.Answer.{Answer, accepted, refused, Counts, Refusal}
 use Rattle.timeline.specs.Design.{Design}
 use Rattle.timeline.specs.Rules.{Lawful}
 use Rattle.entry.specs.Records.{Record, wrong, records}

@@ -1,8 +1,7 @@
 -- What a refusal tells, found after the fact. (01, Answers)
 -- Assumes nothing.
 use Rattle.std.specs.Prelude.{ℕ}
-use Rattle.answers.specs.declared.Refusal.{Refusal}
-use Rattle.answers.specs.Answer.{refusal}
+use Rattle.answers.specs.Answer.{refusal, Refusal}
 use Rattle.entry.specs.Records.{Record}
 use Rattle.entry.specs.Entered.{Entered}
 

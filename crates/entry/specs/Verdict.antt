@@ -1,8 +1,7 @@
 -- The verdict on a list of records, as a computation: records in order, and within a record the table's order. (01, Answers)
 -- Assumes nothing.
 use Rattle.std.specs.Prelude.{ℕ, suc, List, [], ◌∷◌, length}
-use Rattle.answers.specs.declared.Refusal.{Refusal}
-use Rattle.answers.specs.Answer.{Answer, accepted, refused, Counts}
+use Rattle.answers.specs.Answer.{Answer, accepted, refused, Counts, Refusal}
 use Rattle.entry.specs.Records.{Record, wrong}
 use Rattle.entry.specs.Entered.{Entered, nothing, enter, said}
 use Rattle.entry.specs.Asks.{Asks, asks, ending}

@@ -8,8 +8,9 @@ use lib.ListN.{length, take, drop, length-append, length-take, drop_of_length-le
 use lib.Seq.{take_at, take-length}
 use Rattle.timeline.specs.Flat.{Row}
 use Rattle.expansion.specs.Bytes.{rows_bytes, pasted}
-use Rattle.expansion.specs.Notes.{first_note, listed, listed_from}
-use Rattle.expansion.specs.Asked.{Says, Sound, Asked, AskedFrom, Wrote}
+use Rattle.expansion.specs.declared.Note.{Note}
+use Rattle.expansion.specs.Notes.{note_at, first_note, listed, listed_from}
+use Rattle.expansion.specs.Asked.{Sound, Asked, AskedFrom, Wrote}
 use Rattle.expansion.proofs.Pasted.{pasted_none, pasted_length, pasted_more, length_rows_bytes, rows_bytes_join}
 use Rattle.expansion.proofs.Listed.{listed_leaf, listed_notes, from_more}
 
@@ -32,7 +33,7 @@ wrote_both a b at r₁ r₂ old mid new room v w =
     }
 
 -- ---- a component
-module _ {noted ends : List ℕ} {c t u at : ℕ} {old : List ℕ} (a : Asked noted ends c t u at old) where
+module _ {noted : List Note} {ends : List ℕ} {c t u at : ℕ} {old : List ℕ} (a : Asked noted ends c t u at old) where
   pub leaf_asked : first_note ends (c + 1) ≤ first_note ends c → (at + 8 ≤ 32768) × (length old ≡ 32768)
   leaf_asked h = let n : length (listed noted ends c t u) ≡ 1 = ap length (listed_leaf noted ends c t u h) in let r = a.room in (omega arith, a.long)
 
@@ -40,24 +41,24 @@ module _ {noted ends : List ℕ} {c t u at : ℕ} {old : List ℕ} (a : Asked no
   notes_asked h = record { expands = a.expands; from = omega arith; upto = omega arith; room = rw (listed_notes noted ends c t u h) at a.room; long = a.long }
 
 -- ---- its notes from e on
-module _ {noted ends : List ℕ} {c e t u at : ℕ} {old : List ℕ} (a : AskedFrom noted ends c e t u at old) (h : e < first_note ends (c + 1)) where
+module _ {noted : List Note} {ends : List ℕ} {c e t u at : ℕ} {old : List ℕ} (a : AskedFrom noted ends c e t u at old) (h : e < first_note ends (c + 1)) where
   pub note_within : e < 3968
   note_within = let w = a.expands.sound.within c (omega arith) in omega arith
 
-  module _ {n o b : ℕ} (s : Says noted e n o b) where
-    pub lower : n < c
-    lower = rw s.component_is (a.expands.sound.lower c (omega arith) e a.from h)
+  module _ {x : Note} (is : x ≡ note_at noted e) (offset_small : x.offset < 65536) (units_small : x.units < 65536) where
+    pub lower : x.component < c
+    lower = rw is (a.expands.sound.lower c (omega arith) e a.from h)
 
     abbrev first : List Row
-    first = listed noted ends n (t + o) (u + b)
+    first = listed noted ends x.component (t + x.offset) (u + x.units)
 
     cut : listed_from noted ends c e t u ≡ first ++ listed_from noted ends c (e + 1) t u
-    cut = rw (s.component_is, s.offset_is, s.units_is) (from_more noted ends (c + 1) a.expands.sound c e t u (omega arith) a.from h)
+    cut = rw is (from_more noted ends (c + 1) a.expands.sound c e t u (omega arith) a.from h)
 
     cut_length : length (listed_from noted ends c e t u) ≡ length first + length (listed_from noted ends c (e + 1) t u)
     cut_length = ap length cut ∙ length-append first (listed_from noted ends c (e + 1) t u)
 
-    sound_below : Sound noted ends (n + 1)
+    sound_below : Sound noted ends (x.component + 1)
     sound_below =
         let l = lower in
         let s = a.expands.sound in
@@ -67,19 +68,19 @@ module _ {noted ends : List ℕ} {c e t u at : ℕ} {old : List ℕ} (a : AskedF
           lower = λ d m. s.lower d (omega arith);
         }
 
-    pub sub_asked : Asked noted ends n (t + o) (u + b) at old
+    pub sub_asked : Asked noted ends x.component (t + x.offset) (u + x.units) at old
     sub_asked =
         let l = lower in
         let k = cut_length in
         let r = a.room in
-        let x = a.expands in
+        let d = a.expands in
         record {
           expands = record { sound = sound_below; few = omega arith; cycles = omega arith; units = omega arith };
           room = omega arith;
           long = a.long;
         }
 
-    module _ {r₁ : ℕ} {mid : List ℕ} (v : Wrote (listed noted ends n (t + o) (u + b)) at r₁ old mid) where
+    module _ {r₁ : ℕ} {mid : List ℕ} (v : Wrote first at r₁ old mid) where
       fitted : at + 8 * length first ≤ length old
       fitted = let k = cut_length in let r = a.room in let l = a.long in omega arith
 

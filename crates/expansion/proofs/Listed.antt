@@ -5,6 +5,7 @@ use mathlib.Core.Path.{◌≡◌, refl, ap₂, ◌∙◌}
 use mathlib.Core.List.{List, [], ◌∷◌, ◌++◌}
 use native.Mathlib.Omega.{arith}
 use borrow.Author.Tests.{lt-ltb, le-ltb}
+use Rattle.expansion.specs.declared.Note.{Note}
 use Rattle.expansion.specs.Notes.{note_component, note_offset, note_units, first_note, join_from, listed_to, listed, listed_from}
 use Rattle.expansion.specs.Asked.{Sound}
 
@@ -18,7 +19,7 @@ unfolding join_from
 join_from_more zero e f h = absurd (omega arith)
 join_from_more (suc n) e f h = let p : suc n - 1 ≡ n = omega arith in rw p
 
-module _ (noted ends : List ℕ) where
+module _ (noted : List Note) (ends : List ℕ) where
   pub listed_leaf : (c t u : ℕ) → first_note ends (c + 1) ≤ first_note ends c → listed noted ends c t u ≡ record { cycle = t; unit = u; component = c } ∷ []
   unfolding listed listed_to
   listed_leaf c t u h = rw (le-ltb (first_note ends c) (first_note ends (c + 1)) h)
@@ -32,7 +33,7 @@ module _ (noted ends : List ℕ) where
   from_none c e t u h = let z : first_note ends (c + 1) - e ≡ 0 = omega arith in rw z
 
 -- Any depth above the component gives the same rows.
-module _ (noted ends : List ℕ) (k : ℕ) (s : Sound noted ends k) where
+module _ (noted : List Note) (ends : List ℕ) (k : ℕ) (s : Sound noted ends k) where
   depth_same : (f g c t u : ℕ) → c < k → c < f → c < g → listed_to noted ends f c t u ≡ listed_to noted ends g c t u
   unfolding listed_to
   depth_same zero g c t u b p q = absurd (omega arith)

@@ -10,13 +10,14 @@ use Rattle.timeline.specs.Design.{Design, Class, leaf, built, class}
 use Rattle.timeline.specs.Rules.{Lawful}
 use Rattle.timeline.specs.Flat.{row_count, unit_count, rows_from}
 use Rattle.timeline.proofs.Rows.{rows_length, rows_leaf, rows_built}
+use Rattle.expansion.specs.declared.Note.{Note}
 use Rattle.expansion.specs.Notes.{note_component, note_offset, note_units, first_note, join_from, listed}
 use Rattle.expansion.specs.Asked.{Sound}
 use Rattle.expansion.specs.Noted.{note_rows, invocation_rows, Noted}
 use Rattle.expansion.proofs.Listed.{join_from_same, listed_leaf, listed_join}
 use Rattle.expansion.proofs.Units.{units_within, invoked_lower}
 
-module _ {D : Design} (lawful : Lawful D) {noted ends : List ℕ} {k : ℕ} (n : Noted D noted ends k) (few : k ≤ length D) where
+module _ {D : Design} (lawful : Lawful D) {noted : List Note} {ends : List ℕ} {k : ℕ} (n : Noted D noted ends k) (few : k ≤ length D) where
   pub noted_sound : Sound noted ends k
   noted_sound = record {
     rising = λ c h. (n.notes c h).order;

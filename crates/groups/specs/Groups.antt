@@ -10,6 +10,7 @@ use Rattle.timeline.specs.Rules.{Lawful}
 use Rattle.entry.specs.Records.{records}
 use Rattle.entry.specs.Entered.{design}
 use Rattle.reading.specs.Table.{TableOf}
+use Rattle.reading.specs.Reader.{Row}
 use Rattle.reader.specs.Rows.{row_in}
 use Rattle.look.specs.Listed.{records_of}
 
@@ -37,6 +38,10 @@ first_number file i = Look.first_number file i
 
 abbrev pub second_number : List ℕ → ℕ → ℕ
 second_number file i = Look.second_number file i
+
+-- The record behind the ports of a component.
+abbrev pub past_ports : Row → ℕ
+past_ports w = w.first + 1 + w.inputs + w.outputs
 
 -- From record i on, of which so many are left: the first that is no instance.
 unfoldable pub past_instances : List ℕ → (left i : ℕ) → ℕ

@@ -7,8 +7,7 @@ use mathlib.Core.Path.{◌≡◌, refl, ap, ◌∙◌, sym}
 use native.Mathlib.Omega.{arith}
 use lib.ListN.{length}
 use lib.Dec.{ltb}
-use Rattle.answers.specs.declared.Refusal.{Refusal}
-use Rattle.answers.specs.Answer.{Answer, accepted, refused, Sure, Counts}
+use Rattle.answers.specs.Answer.{Answer, accepted, refused, Sure, Counts, Refusal}
 use Rattle.answers.specs.Once.{sure_then}
 use Rattle.blocks.specs.File.{sound, present, record_answer}
 use Rattle.blocks.proofs.Accepted.{sound_sure}

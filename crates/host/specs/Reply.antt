@@ -1,8 +1,7 @@
 -- The struct that a host reads for each answer. (01, Answers)
 -- Assumes nothing.
 use Rattle.std.specs.Prelude.{ℕ}
-use Rattle.answers.specs.declared.Refusal.{Refusal}
-use Rattle.answers.specs.Answer.{Answer, accepted, refused, Counts}
+use Rattle.answers.specs.Answer.{Answer, accepted, refused, Counts, Refusal}
 use Rattle.blocks.specs.File.{record_place}
 use Rattle.host.specs.declared.Reply.{Reply}
 

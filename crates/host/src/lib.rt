@@ -2,8 +2,9 @@
 // An exported function cannot return an enum, so that each answer becomes one struct of numbers; `specs/Reply.antt` says which.
 #![tactic(auto)]
 
-ghost use Rattle.std.specs.Prelude.{◌≡◌, length, replicate};
-ghost use Rattle.answers.specs.Answer.{judged, written, looked_up};
+ghost use Rattle.std.specs.Prelude.{◌≡◌, ◌<◌, length, replicate};
+ghost use Rattle.answers.specs.Fault.{number};
+ghost use Rattle.answers.specs.Answer.{refusal};
 ghost use Rattle.signatures.specs.Rows.{zero_row};
 ghost use Rattle.blocks.specs.File.{record_answer};
 ghost use Rattle.packing.specs.Answer.{pack_answer, unpack_answer, pack_left, unpack_left};
@@ -12,12 +13,12 @@ ghost use Rattle.lowering.specs.Answer.{lower_answer, lower_left};
 ghost use Rattle.listing.specs.Answer.{list_answer, list_left};
 ghost use Rattle.host.specs.Reply.{refusing, reply, counts, amount, place};
 
-use answers::{Lookup, Refusal, Verdict, Written};
+use answers::{Counts, Refusal};
 use signatures::Signature;
 
 // `struct dansevik_answer` of the header: what does not apply is zero.
 #[repr(C)]
-#[derive(Clone, Copy)]
+#[derive(Clone, Copy, Default)]
 pub struct Reply {
     // 0: accepted; otherwise document 01's number of the refusal
     pub refusal: u64,
@@ -31,66 +32,51 @@ pub struct Reply {
     pub offset: u64,
 }
 
-fn size(x: u64) -> usize
-    ensures { result ≡ x }
-{
-    x as usize
-}
+impl From<Refusal> for Reply {
+    ghost from_gives = { λ r result. result ≡ refusing (refusal (number r.fault) r.position) };
 
-fn wide(x: usize) -> u64
-    ensures { result ≡ x }
-{
-    x as u64
-}
-
-fn number(x: u8) -> u64
-    ensures { result ≡ x }
-{
-    x as u64
-}
-
-fn refused(r: Refusal) -> Reply
-    ensures { result ≡ refusing r }
-{
-    Reply {
-        refusal: number(r.number),
-        position: wide(r.position),
-        count: 0,
-        components: 0,
-        offset: 0,
+    fn from(r: Refusal) -> Reply {
+        Reply {
+            refusal: u64::from(r.fault.number()),
+            position: r.position as u64,
+            ..Reply::default()
+        }
     }
 }
 
-fn of_verdict(v: Verdict) -> Reply
-    ensures { result ≡ reply counts (judged v) }
-{
-    match v {
-        Verdict::Accepted {
-            components,
-            records,
-        } => Reply {
-            refusal: 0,
-            position: 0,
-            count: wide(records),
-            components: wide(components),
-            offset: 0,
-        },
-        Verdict::Refused(r) => refused(r),
+impl From<Counts> for Reply {
+    ghost from_gives = { λ k result. result ≡ counts k };
+
+    fn from(k: Counts) -> Reply {
+        Reply {
+            count: k.records as u64,
+            components: k.components as u64,
+            ..Reply::default()
+        }
     }
 }
 
-fn of_written(w: Written) -> Reply
-    ensures { result ≡ reply amount (written w) }
-{
-    match w {
-        Written::Done(n) => Reply {
-            refusal: 0,
-            position: 0,
-            count: wide(n),
-            components: 0,
-            offset: 0,
-        },
-        Written::Refused(r) => refused(r),
+// Two functions and no `From`: both are made of a number, and say different things of it.
+impl Reply {
+    fn amount(n: usize) -> Reply
+        ensures { result ≡ amount n }
+    {
+        Reply {
+            count: n as u64,
+            ..Reply::default()
+        }
+    }
+
+    // Of the record with this number, which is there.
+    fn place(number: usize) -> Reply
+        requires { number < 134217728 }
+        ensures { result ≡ place number tt }
+    {
+        Reply {
+            count: 16,
+            offset: look::place_of(number) as u64,
+            ..Reply::default()
+        }
     }
 }
 
@@ -99,7 +85,7 @@ fn of_written(w: Written) -> Reply
 pub extern "C" fn dansevik_judge(file: &[u8], table: &mut [Signature]) -> Reply
     ensures { (result ≡ reply counts (judgement file.now (length table.old))) × (table.new ≡ replicate (length table.old) zero_row) }
 {
-    of_verdict(verdict::judge(file, table))
+    verdict::judge(file, table).map_or_else(Reply::from, Reply::from)
 }
 
 // The control rows of one built component, sixteen bytes each.
@@ -112,7 +98,10 @@ pub extern "C" fn dansevik_lower(
 ) -> Reply
     ensures { (result ≡ reply amount (lower_answer file.now (length table.old) asked (length out.old))) × (out.new ≡ lower_left file.now (length table.old) asked out.old) × (table.new ≡ replicate (length table.old) zero_row) }
 {
-    of_written(lowering::lower_judged(file, verdict::opened(file, table), size(asked), out))
+    lowering::lower_judged(file, verdict::opened(file, table), asked as usize, out).map_or_else(
+        Reply::from,
+        Reply::amount,
+    )
 }
 
 // The unit starts of one component, eight bytes each.
@@ -125,7 +114,10 @@ pub extern "C" fn dansevik_list(
 ) -> Reply
     ensures { (result ≡ reply amount (list_answer file.now (length table.old) asked (length out.old))) × (out.new ≡ list_left file.now (length table.old) asked out.old) × (table.new ≡ replicate (length table.old) zero_row) }
 {
-    of_written(listing::list_judged(file, verdict::opened(file, table), size(asked), out))
+    listing::list_judged(file, verdict::opened(file, table), asked as usize, out).map_or_else(
+        Reply::from,
+        Reply::amount,
+    )
 }
 
 // The file of a list of records.
@@ -133,7 +125,7 @@ pub extern "C" fn dansevik_list(
 pub extern "C" fn dansevik_pack(list: &[u8], out: &mut [u8]) -> Reply
     ensures { (result ≡ reply amount (pack_answer list.now (length out.old))) × (out.new ≡ pack_left list.now out.old) }
 {
-    of_written(packing::pack(list, out))
+    packing::pack(list, out).map_or_else(Reply::from, Reply::amount)
 }
 
 // The list of records of a file.
@@ -141,7 +133,7 @@ pub extern "C" fn dansevik_pack(list: &[u8], out: &mut [u8]) -> Reply
 pub extern "C" fn dansevik_unpack(file: &[u8], out: &mut [u8]) -> Reply
     ensures { (result ≡ reply amount (unpack_answer file.now (length out.old))) × (out.new ≡ unpack_left file.now out.old) }
 {
-    of_written(packing::unpack(file, out))
+    packing::unpack(file, out).map_or_else(Reply::from, Reply::amount)
 }
 
 // Where the sixteen bytes of a record stand in the caller's own file; nothing is copied.
@@ -149,15 +141,10 @@ pub extern "C" fn dansevik_unpack(file: &[u8], out: &mut [u8]) -> Reply
 pub extern "C" fn dansevik_record(file: &[u8], asked: u64) -> Reply
     ensures { result ≡ reply (place asked) (record_answer file.now asked) }
 {
-    let number = size(asked);
+    let number = asked as usize;
+    // A `match`, and no `map_or_else` as above: `place` asks that the record is there, which each arm shows plainly.
     match blocks::record_answer(file, number) {
-        Lookup::Present => Reply {
-            refusal: 0,
-            position: 0,
-            count: 16,
-            components: 0,
-            offset: wide(look::place_of(number)),
-        },
-        Lookup::Refused(r) => refused(r),
+        Ok(()) => Reply::place(number),
+        Err(r) => Reply::from(r),
     }
 }

@@ -1,47 +1,38 @@
 // When each unit of a component of the file on standard input starts: of the component whose number is the argument, or of the last one.
 #![tactic(auto)]
 
-use report::{STDERR, STDIN, STDOUT};
+use report::{STDERR, STDOUT};
 use std::env::Env;
-use words::{Word, arguments};
+use words::arguments;
 
-#[derive(Drop)]
-enum Asked {
-    Last,
-    Component(u64),
-    Misuse,
-}
+// Arguments that are not a number alone.
+#[derive(Clone, Copy)]
+struct Misuse;
 
-fn asked_for(rt: &impl Env) -> Asked {
+// The component that is asked for, if one is.
+fn asked(rt: &impl Env) -> Result<Option<u64>, Misuse> {
     if !arguments::given(rt, 1) {
-        return Asked::Last;
+        return Ok(None);
     }
     if arguments::given(rt, 2) {
-        return Asked::Misuse;
+        return Err(Misuse);
     }
-    // A word that is too long for the buffer comes back empty, which is no number.
-    let mut word = io::buffer();
-    let n = arguments::argument(rt, 1, &mut word);
-    match words::number(&word[..n]) {
-        Word::Number(c) => Asked::Component(c),
-        Word::Other => Asked::Misuse,
-    }
+    // A word that is too long for the space comes back empty, which is no number.
+    let mut space = io::buffer();
+    let c = words::number(arguments::argument(rt, 1, &mut space)).ok_or(Misuse)?;
+    Ok(Some(c))
 }
 
 fn main(rt: HostRuntime) {
-    // One byte more than any file has: whatever is longer is refused for its length.
-    let mut file = [0u8; 65537];
-    match asked_for(&rt) {
-        Asked::Misuse => {
+    match asked(&rt) {
+        Ok(c) => report::on_input(|file| {
+            report::print(STDOUT, |out| match c {
+                Some(c) => printed::listed(out, file, c as usize),
+                None => printed::last_listed(out, file),
+            })
+        }),
+        Err(Misuse) => {
             io::write_all(STDERR, b"usage: list [COMPONENT]\n");
-        }
-        Asked::Component(c) => {
-            let n = io::read_full(STDIN, &mut file);
-            printed::listed(STDOUT, &file[..n], c as usize);
-        }
-        Asked::Last => {
-            let n = io::read_full(STDIN, &mut file);
-            printed::last_listed(STDOUT, &file[..n]);
         }
     }
 }

@@ -21,6 +21,7 @@ use Rattle.expansion.specs.Notes.{listed}
 use Rattle.expansion.specs.Asked.{Expands}
 use Rattle.expansion.specs.Noted.{capped}
 use Rattle.expansion.proofs.Same.{noted_sound, listed_rows}
+use Rattle.counting.specs.declared.Totals.{Totals}
 use Rattle.counting.specs.Known.{Known}
 use Rattle.listing.specs.Answer.{fits, flat_answer, flat_left}
 
@@ -64,32 +65,32 @@ module _ (D : Design) (c : ℕ) (old : List ℕ) where
         (rw z at a.0, sym (rw (z, rows_none D c 0 0 z)) ∙ a.1)
 
 -- A component that has been counted.
-module _ {D : Design} (lawful : Lawful D) (c : ℕ) (h : c < length D) {counts units noted ends : List ℕ} (k : Known D (c + 1) counts units noted ends) where
-  pub fits_is : (room : ℕ) → fits (get_or counts c 0) (get_or units c 0) room ≡ fits (row_count D c) (unit_count D c) room
+module _ {D : Design} (lawful : Lawful D) (c : ℕ) (h : c < length D) {totals : Totals} (k : Known D (c + 1) totals) where
+  pub fits_is : (room : ℕ) → fits (get_or totals.rows c 0) (get_or totals.units c 0) room ≡ fits (row_count D c) (unit_count D c) room
   fits_is room = rw (k.row_counts c (omega arith), k.unit_counts c (omega arith)) (fits_capped (row_count D c) (unit_count D c) room)
 
-  module _ (old : List ℕ) (f : fits (get_or counts c 0) (get_or units c 0) (length old) ≡ true) where
+  module _ (old : List ℕ) (f : fits (get_or totals.rows c 0) (get_or totals.units c 0) (length old) ≡ true) where
     fine : fits (row_count D c) (unit_count D c) (length old) ≡ true
     fine = sym (fits_is (length old)) ∙ f
 
-    pub count_is : get_or counts c 0 ≡ row_count D c
+    pub count_is : get_or totals.rows c 0 ≡ row_count D c
     count_is =
         let e = k.row_counts c (omega arith) in
         let w = fits_says (row_count D c) (unit_count D c) (length old) fine in
         omega arith
 
-    pub none_left : get_or counts c 0 ≡ 0 → Answers D c old (accepted 0) old
+    pub none_left : get_or totals.rows c 0 ≡ 0 → Answers D c old (accepted 0) old
     none_left z = no_rows D c old h fine (sym count_is ∙ z)
 
-    module _ (s : get_or counts c 0 ≡ 0 → ⊥) where
-      rows_are : listed noted ends c 0 0 ≡ rows D c
+    module _ (s : get_or totals.rows c 0 ≡ 0 → ⊥) where
+      rows_are : listed totals.notes.noted totals.notes.ends c 0 0 ≡ rows D c
       unfolding rows
       rows_are =
           let w = fits_says (row_count D c) (unit_count D c) (length old) fine in
           let e = count_is in
           listed_rows lawful k.notes (omega arith) (suc c) c 0 0 (omega arith) (omega arith) (omega arith) w.1
 
-      pub write_asked : (size : ℕ) → size ≡ 8 * get_or counts c 0 → Expands noted ends c 0 0 × (size ≡ 8 * length (listed noted ends c 0 0)) × (size ≤ 32768) × (size ≤ length old)
+      pub write_asked : (size : ℕ) → size ≡ 8 * get_or totals.rows c 0 → Expands totals.notes.noted totals.notes.ends c 0 0 × (size ≡ 8 * length (listed totals.notes.noted totals.notes.ends c 0 0)) × (size ≤ 32768) × (size ≤ length old)
       unfolding rows
       write_asked size es =
           let w = fits_says (row_count D c) (unit_count D c) (length old) fine in
@@ -99,7 +100,7 @@ module _ {D : Design} (lawful : Lawful D) (c : ℕ) (h : c < length D) {counts u
           let q = lawful.few in
           (record { sound = noted_sound lawful k.notes (omega arith); few = omega arith; cycles = omega arith; units = omega arith }, omega arith, omega arith, omega arith)
 
-      pub some_left : (size : ℕ) (new : List ℕ) → size ≡ 8 * get_or counts c 0 → new ≡ rows_bytes (listed noted ends c 0 0) ++ drop size old → Answers D c old (accepted (get_or counts c 0)) new
+      pub some_left : (size : ℕ) (new : List ℕ) → size ≡ 8 * get_or totals.rows c 0 → new ≡ rows_bytes (listed totals.notes.noted totals.notes.ends c 0 0) ++ drop size old → Answers D c old (accepted (get_or totals.rows c 0)) new
       some_left size new es w =
           let a = listed_left D c old h fine in
           (rw count_is a.0, w ∙ rw (rows_are, es, count_is) a.1)

@@ -1,6 +1,6 @@
 -- What stands in a file under a record's number.
 -- Assumes nothing.
-use Rattle.std.specs.Prelude.{ℕ, ◌+◌, ◌-◌, min, cond, List, length, get_or, take, drop, ltb}
+use Rattle.std.specs.Prelude.{ℕ, ◌+◌, ◌-◌, ◌<◌, ◌≤◌, min, cond, List, length, get_or, take, drop, ltb}
 use Rattle.timeline.specs.Design.{Port}
 use Rattle.numbers.specs.Numbers.{number}
 use Rattle.blocks.specs.File.{record_place}
@@ -9,6 +9,10 @@ module _ (file : List ℕ) (i : ℕ) where
   -- The bytes of record i.
   abbrev pub sixteen : List ℕ
   sixteen = take 16 (drop (record_place i) file)
+
+  -- The record stands in the file.
+  abbrev pub Stands : Type 0
+  Stands = (i < 1048576) × (record_place i + 16 ≤ length file)
 
   -- Where record i stands; past the end of the file, where the last sixteen bytes do, so that something stands there.
   abbrev pub look_place : ℕ

@@ -1,4 +1,3 @@
 pub mod Bytes
-pub mod Halves
 pub mod Stores
 pub mod Zeros

@@ -1,58 +1,75 @@
 // Numbers in bytes, the lowest byte first. ("Numbers are little-endian.")
 #![tactic(auto)]
 
-ghost use Rattle.std.specs.Prelude.{◌≡◌, ◌+◌, ◌≤◌, ◌<◌, length};
+ghost use Rattle.std.specs.Prelude.{◌≡◌, ℕ, ◌+◌, ◌≤◌, length};
 ghost use Rattle.numbers.specs.Numbers.{number, bytes};
 
-fn byte16(x: u8) -> u16
-    ensures { (result ≡ x) × (result < 256) }
-{
-    x as u16
+// A number of two, four or eight bytes.
+pub trait Number: Sized {
+    // How many bytes it takes.
+    ghost width: { ℕ };
+
+    // What it counts.
+    ghost value: { Self → ℕ };
+
+    // The number in the bytes from `at` on.
+    fn read(s: &[u8], at: usize) -> Self
+        requires { at + width ≤ length s.now }
+        ensures { value result ≡ number width s.now at };
+
+    // Into as many bytes.
+    fn write(self, out: &mut [u8])
+        requires { length out.old ≡ width }
+        ensures { out.new ≡ bytes width (value self) };
 }
 
-fn half32(x: u16) -> u32
-    ensures { (result ≡ x) × (result < 65536) }
-{
-    x as u32
+impl Number for u16 {
+    ghost width = { 2 };
+
+    ghost value = { λ x. x };
+
+    fn read(s: &[u8], at: usize) -> u16 {
+        u16::from_le_bytes([s[at], s[at + 1]])
+    }
+
+    fn write(self, out: &mut [u8]) {
+        out.copy_from_slice(&u16::to_le_bytes(self));
+    }
 }
 
-fn half64(x: u32) -> u64
-    ensures { (result ≡ x) × (result < 4294967296) }
-{
-    x as u64
+impl Number for u32 {
+    ghost width = { 4 };
+
+    ghost value = { λ x. x };
+
+    fn read(s: &[u8], at: usize) -> u32 {
+        u32::from_le_bytes([s[at], s[at + 1], s[at + 2], s[at + 3]])
+    }
+
+    fn write(self, out: &mut [u8]) {
+        out.copy_from_slice(&u32::to_le_bytes(self));
+    }
 }
 
-// The number in two bytes.
-pub fn two(s: &[u8], at: usize) -> u16
-    requires { at + 2 ≤ length s.now }
-    ensures { result ≡ number 2 s.now at }
-{
-    byte16(s[at]) + 256 * byte16(s[at + 1])
-}
+impl Number for u64 {
+    ghost width = { 8 };
 
-// The number in four bytes.
-pub fn four(s: &[u8], at: usize) -> u32
-    requires { at + 4 ≤ length s.now }
-    ensures { result ≡ number 4 s.now at }
-{
-    half32(two(s, at)) + 65536 * half32(two(s, at + 2))
-}
+    ghost value = { λ x. x };
 
-// The number in eight bytes.
-pub fn eight(s: &[u8], at: usize) -> u64
-    requires { at + 8 ≤ length s.now }
-    ensures { result ≡ number 8 s.now at }
-{
-    half64(four(s, at)) + 4294967296 * half64(four(s, at + 4))
-}
+    fn read(s: &[u8], at: usize) -> u64 {
+        u64::from_le_bytes([
+            s[at],
+            s[at + 1],
+            s[at + 2],
+            s[at + 3],
+            s[at + 4],
+            s[at + 5],
+            s[at + 6],
+            s[at + 7],
+        ])
+    }
 
-// A number into four bytes.
-pub fn put_four(out: &mut [u8], x: u32)
-    requires { length out.old ≡ 4 }
-    ensures { out.new ≡ bytes 4 x }
-{
-    out[0] = (x % 256) as u8;
-    out[1] = (x / 256 % 256) as u8;
-    out[2] = (x / 256 / 256 % 256) as u8;
-    out[3] = (x / 256 / 256 / 256 % 256) as u8;
+    fn write(self, out: &mut [u8]) {
+        out.copy_from_slice(&u64::to_le_bytes(self));
+    }
 }

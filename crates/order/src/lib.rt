@@ -1,4 +1,5 @@
-// The reader's place in the order of the records: a state by value, with a method for each kind of record.
+// The reader's place in the order of the records. A rule of the project asks for this form, a state by value with a method for each kind of record:
+// so each kind has its own test of order, its own limit and its own step, and no one test takes the kind beside the place.
 // `specs/Seen.antt` says which place of the theory it is.
 #![tactic(auto)]
 
@@ -8,7 +9,7 @@ ghost use Rattle.entry.specs.Records.{input, output, instance, invocation, argum
 ghost use Rattle.reading.specs.Place.{begun, may, may_end, moved};
 ghost use Rattle.order.specs.Seen.{seen, closed};
 
-#[derive(Clone, Copy)]
+#[derive(Clone, Copy, Debug, Default, PartialEq, Eq)]
 pub struct Place {
     pub built: bool,
     // how many of each kind have been read
@@ -27,27 +28,18 @@ pub fn begun(built: bool) -> Place
 {
     Place {
         built,
-        inputs: 0,
-        outputs: 0,
-        instances: 0,
-        invocations: 0,
-        connections: 0,
-        due: 0,
+        ..Place::default()
     }
 }
 
-// The place before the first record, at which nothing but a component may stand: a leaf with a connection.
+// The place before the first record, at which nothing but a component may stand: a leaf with a connection. So the first record is judged
+// as any other (docs/DECISIONS.md, "A component at a time"); with an `Option` of a place every method would ask first whether there is one.
 pub fn closed() -> Place
     ensures { seen result ≡ closed }
 {
     Place {
-        built: false,
-        inputs: 0,
-        outputs: 0,
-        instances: 0,
-        invocations: 0,
         connections: 1,
-        due: 0,
+        ..Place::default()
     }
 }
 
@@ -133,7 +125,7 @@ impl Place {
         requires { self.inputs < 16 }
         ensures { seen result ≡ moved (seen self) (input no_port) 0 }
     {
-        self.inputs = self.inputs + 1;
+        self.inputs += 1;
         self
     }
 
@@ -141,7 +133,7 @@ impl Place {
         requires { self.outputs < 16 }
         ensures { seen result ≡ moved (seen self) (output no_port) 0 }
     {
-        self.outputs = self.outputs + 1;
+        self.outputs += 1;
         self
     }
 
@@ -149,7 +141,7 @@ impl Place {
         requires { self.instances < 32 }
         ensures { seen result ≡ moved (seen self) (instance 0) 0 }
     {
-        self.instances = self.instances + 1;
+        self.instances += 1;
         self
     }
 
@@ -158,7 +150,7 @@ impl Place {
         requires { self.invocations < 64 }
         ensures { seen result ≡ moved (seen self) (invocation no_call) inputs }
     {
-        self.invocations = self.invocations + 1;
+        self.invocations += 1;
         self.due = inputs;
         self
     }
@@ -167,7 +159,7 @@ impl Place {
         requires { 0 < self.due }
         ensures { seen result ≡ moved (seen self) (argument (constant 0)) 0 }
     {
-        self.due = self.due - 1;
+        self.due -= 1;
         self
     }
 
@@ -175,7 +167,7 @@ impl Place {
         requires { self.connections < self.outputs }
         ensures { seen result ≡ moved (seen self) (connection (constant 0)) 0 }
     {
-        self.connections = self.connections + 1;
+        self.connections += 1;
         self
     }
 }

@@ -8,9 +8,8 @@ use native.Mathlib.Omega.{arith}
 use lib.ListN.{length}
 use lib.Dec.{ltb}
 use borrow.Author.Tests.{ltb-false}
-use Rattle.answers.specs.declared.Refusal.{Refusal}
 use Rattle.answers.specs.Fault as Fault
-use Rattle.answers.specs.Answer.{Answer, accepted, refused, then, refusal}
+use Rattle.answers.specs.Answer.{Answer, accepted, refused, then, refusal, Refusal}
 use Rattle.answers.specs.Once.{apart}
 use Rattle.blocks.specs.File.{sound}
 use Rattle.packing.specs.Packed.{list_allowed, blocks_for}

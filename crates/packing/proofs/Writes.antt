@@ -5,9 +5,8 @@ use mathlib.Core.Path.{◌≡◌, refl, ap, sym, ◌∙◌}
 use mathlib.Core.List.{List, ◌++◌, append_assoc, append-nil}
 use mathlib.Core.Bool.{Bool}
 use native.Mathlib.Omega.{arith}
-use native.Mathlib.Nat.{add-sub_cancel_left}
 use native.Mathlib.Numerals.{add-one}
-use lib.ListN.{length, get_or, take, drop, set, replicate, length-append, length-drop, length-take, length-replicate, drop_of_length-le, replicate-append-replicate}
+use lib.ListN.{length, get_or, take, drop, replicate, length-append, length-drop, length-take, length-replicate, drop_of_length-le}
 use Rattle.numbers.specs.Numbers.{bytes}
 use Rattle.numbers.proofs.Bytes.{length_bytes}
 use Rattle.fnv.specs.Fnv.{hash}
@@ -16,25 +15,19 @@ use Rattle.blocks.specs.File.{block_count, block, record_count}
 use Rattle.blocks.specs.Sound.{Sound}
 use Rattle.packing.specs.Packed.{counting, heading, slots, front, filled, records_of, blocks_for, packed_to, packed, unpacked_to, unpacked}
 use Rattle.packing.proofs.Block.{length_front, length_filled}
-use Rattle.packing.proofs.Trips.{length_packed_to, stretch, length_stretch, stretch_within, length_unpacked_to, length_unpacked}
+use Rattle.packing.proofs.Trips.{length_packed_to, stretch, length_stretch, length_unpacked_to, length_unpacked}
 use lib.Dec.{eqb}
-use lib.Seq.{take-take, take_at, drop_at, drop-drop, take_all, take-suc-set}
-
-pub clear_more : (out : List ℕ) (i : ℕ) → i < length out → take i out ≡ replicate i 0 → take (i + 1) (set out i 0) ≡ replicate (i + 1) 0
-clear_more out i p e = rw (← replicate-append-replicate {A = ℕ} i 1 0, add-one, take-suc-set out i 0 p, e)
-
-pub same_all : (a b : List ℕ) (n : ℕ) → length a ≤ n → length b ≤ n → take n a ≡ take n b → a ≡ b
-same_all a b n p q e = sym (take_all n a p) ∙ e ∙ take_all n b q
+use lib.Seq.{take-take, take_at, drop_at, drop-drop, take_all}
+use lib.Seq.{take-suc-set}
+use Rattle.packing.proofs.Trips.{stretch_within}
+use lib.ListN.{set, replicate-append-replicate}
+use native.Mathlib.Nat.{add-sub_cancel_left}
 
 -- The next part, from place a to place e, behind what is done.
 pub next_part : (l r d out : List ℕ) (a e : ℕ) → out ≡ l ++ drop a d → length l ≡ a → a + length r ≡ e → take a out ++ (r ++ drop (e - a) (drop a out)) ≡ (l ++ r) ++ drop e d
 next_part l r d out a e h hl he =
     let w : e - a ≡ length r = omega arith in
     rw (h, w, take_at l (drop a d) a hl, drop_at l (drop a d) a hl, drop-drop (length r) a d, he, append_assoc)
-
--- Copying over a part of the same length leaves the copy.
-pub copied : (part old : List ℕ) → length old ≤ length part → take (length part) part ++ drop (length part) old ≡ part
-copied part old q = rw (take_all (length part) part (omega arith), drop_of_length-le old {i = length part} q) (append-nil part)
 
 -- What stands after the five writes of a block: number, count, records, zeros, check.
 module _ (o number count records zeros check : List ℕ) (n : ℕ) where
@@ -130,6 +123,24 @@ module _ (file d : List ℕ) (s : Sound file) (b : ℕ) (p : b < block_count fil
       let m : length (unpacked_to file b ++ stretch file s b) ≡ 496 * b + 16 * c = simp length-append (rw (k, ec) (omega (arith, length_stretch file s b p))) in
       rw (add-one b, m, ← q) (next_part (unpacked_to file b) ys d out (496 * b) (496 * b + 16 * c) g k (omega arith))
 
+pub unpack_done : (file d out : List ℕ) (b : ℕ) → Sound file → b ≡ block_count file → out ≡ unpacked_to file b ++ drop (length (unpacked_to file b)) d
+    → out ≡ unpacked file ++ drop (16 * record_count file) d
+unfolding unpacked
+unpack_done file d out b s e h = let k = length_unpacked file s in h ∙ rw (e, ← k)
+
+-- ---- bytes set to zero one by one, and lists that are the same from their first bytes on
+pub clear_more : (out : List ℕ) (i : ℕ) → i < length out → take i out ≡ replicate i 0 → take (i + 1) (set out i 0) ≡ replicate (i + 1) 0
+clear_more out i p e = rw (← replicate-append-replicate {A = ℕ} i 1 0, add-one, take-suc-set out i 0 p, e)
+
+pub same_all : (a b : List ℕ) (n : ℕ) → length a ≤ n → length b ≤ n → take n a ≡ take n b → a ≡ b
+same_all a b n p q e = sym (take_all n a p) ∙ e ∙ take_all n b q
+
+-- Copying over a part of the same length leaves the copy.
+pub copied : (part old : List ℕ) → length old ≤ length part → take (length part) part ++ drop (length part) old ≡ part
+copied part old q = rw (take_all (length part) part (omega arith), drop_of_length-le old {i = length part} q) (append-nil part)
+
+-- ---- the slots of a block, copied over as many bytes
+module _ (file d : List ℕ) (s : Sound file) (b : ℕ) (p : b < block_count file) where
   short : (k : ℕ) (x : List ℕ) → length (take k x) ≤ k
   short k x = simp length-take (omega arith)
 
@@ -147,8 +158,3 @@ module _ (file d : List ℕ) (s : Sound file) (b : ℕ) (p : b < block_count fil
       let j = length_stretch file s b p in
       let i = stretch_within file s b p in
       rw (add-one b) (simp length-append (omega arith))
-
-pub unpack_done : (file d out : List ℕ) (b : ℕ) → Sound file → b ≡ block_count file → out ≡ unpacked_to file b ++ drop (length (unpacked_to file b)) d
-    → out ≡ unpacked file ++ drop (16 * record_count file) d
-unfolding unpacked
-unpack_done file d out b s e h = let k = length_unpacked file s in h ∙ rw (e, ← k)

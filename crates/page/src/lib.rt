@@ -1,163 +1,166 @@
 // One line of a picture after the other, on a page: as text in comment lines, or as SVG. (docs/TEXT.md)
 #![tactic(auto)]
 
-mod marks;
+ghost use Rattle.std.specs.Prelude.{◌≡◌, OnOk, OnErr};
+ghost use Rattle.page.specs.Page.{one_line_more};
+
+mod glyph;
+mod label;
 mod svg;
-mod typed;
+mod text;
 
-use cells::Cell;
-use marks::Glyph;
-use uses::{Available, Uses};
+use cells::{Cell, Line};
+use glyph::{Glyph, Mark};
+pub use label::Label;
+use parts::{Interval, Use};
+use std::fmt;
+pub use svg::Svg;
+pub use text::Text;
 
+// What a picture is of: the component with this number, its delay, and how many cycles are seen.
 #[derive(Clone, Copy)]
-pub enum Style {
-    Text,
-    Svg,
-    // nothing is written, lines are only counted
-    Count,
+pub struct View {
+    pub component: usize,
+    pub delay: u16,
+    pub cycles: u16,
 }
 
-#[derive(Clone, Copy)]
-pub struct Page {
-    pub fd: i32,
-    pub style: Style,
-    // the component's delay, and how many cycles are seen
-    pub delay: usize,
-    pub cycles: usize,
-    // how many lines stand above
-    pub lines: usize,
+// The title.
+impl fmt::Display for View {
+    fn fmt<W: fmt::Write>(&self, f: &mut fmt::Formatter<W>) -> fmt::Result {
+        let component = self.component;
+        let delay = self.delay;
+        write!(
+            f,
+            "component {component} delay {delay}, the next start (') at cycle {delay}"
+        )
+    }
 }
 
-// Whose line it is.
-#[derive(Drop)]
-pub enum Label {
-    // of the component itself
-    Input(usize),
-    Output(usize),
-    // of an instance: how long it is busy, a port, or that it has no line more
-    Busy(usize),
-    InputOf(usize, usize),
-    OutputOf(usize, usize),
-    Unnamed(usize),
-    Unused(usize),
-}
-
-// What a line shows: of this instance, an interval from each use on.
+// What a row shows: a line of these invocations, each in its place, and when each of them finds what it reads; always, where that is
+// not said. Two lists and not one: the uses are the component's, and what they read is another for each line.
 #[derive(Clone, Copy)]
-pub struct Shown {
-    pub instance: u16,
-    pub start: u16,
-    pub end: u16,
+pub struct Row<'a> {
+    pub line: Line,
     // a port of the component itself
     pub own: bool,
+    pub uses: &'a [Option<Use>],
+    pub there: &'a [Interval],
 }
 
-fn wide(x: u16) -> usize {
-    x as usize
-}
-
-// `!` where what the invocation reads is not there in this cycle.
-fn mark(c: Cell, a: Available, t: usize) -> u8 {
-    match c {
-        Cell::First(j) => {
-            let from = a.from;
-            let to = a.to;
-            if 64 <= j {
-                return 32;
-            }
-            if t < wide(from[j]) {
-                return 33;
-            }
-            if wide(to[j]) <= t {
-                return 33;
-            }
-            32
+impl Row<'_> {
+    fn used(self, j: usize, mark: Mark) -> Glyph {
+        if self.own {
+            Glyph::Own(mark)
+        } else {
+            Glyph::Number(j, mark)
         }
-        Cell::Free => 32,
-        Cell::Next(_) => 32,
-        Cell::Several => 32,
     }
-}
 
-fn glyph_at(u: Uses, a: Available, s: Shown, delay: usize, t: usize) -> Glyph {
-    let instances = u.instances;
-    let offsets = u.offsets;
-    let c = cells::cell_at(
-        &instances,
-        &offsets,
-        s.instance,
-        s.start,
-        s.end,
-        uses::half(delay),
-        t,
-    );
-    marks::drawn(c, s.own, mark(c, a, t))
-}
-
-fn next_line(p: Page) -> Page {
-    let style = p.style;
-    let mut lines = p.lines;
-    if lines < 65535 {
-        lines += 1;
+    // Whether invocation j reads in cycle t what is not there.
+    fn misses(self, j: usize, t: usize) -> bool {
+        let there = self.there;
+        matches!(there.get(j), Some(interval) if !interval.holds(t))
     }
-    Page {
-        fd: p.fd,
-        style,
-        delay: p.delay,
-        cycles: p.cycles,
-        lines,
-    }
-}
 
-// A line with cells.
-pub fn row(p: Page, l: Label, u: Uses, a: Available, s: Shown) -> Page {
-    let style = p.style;
-    match style {
-        Style::Text => {
-            typed::label(p.fd, l);
-            typed::cells(p, u, a, s);
+    fn glyph(self, cycle: u16) -> Glyph {
+        let uses = self.uses;
+        let t = usize::from(cycle);
+        match self.line.cell_at(uses, t) {
+            Cell::Free => Glyph::Free,
+            Cell::First(j) if self.misses(j, t) => self.used(j, Mark::Missing),
+            Cell::First(j) => self.used(j, Mark::None),
+            Cell::Next(j) => self.used(j, Mark::Next),
+            Cell::Several => Glyph::Several,
         }
-        Style::Svg => {
-            svg::label(p, l);
-            svg::cells(p, u, a, s);
-        }
-        Style::Count => {}
-    }
-    next_line(p)
-}
-
-// A line without cells.
-pub fn note(p: Page, l: Label) -> Page {
-    let style = p.style;
-    match style {
-        Style::Text => {
-            typed::label(p.fd, l);
-            io::write_all(p.fd, b"\n");
-        }
-        Style::Svg => svg::label(p, l),
-        Style::Count => {}
-    }
-    next_line(p)
-}
-
-// What stands above the lines of component c, of which there will be so many.
-pub fn open(p: Page, c: usize, lines: usize) {
-    let style = p.style;
-    match style {
-        Style::Text => typed::open(p, c),
-        Style::Svg => svg::open(p, c, lines),
-        Style::Count => {}
     }
 }
 
-// What stands below them.
-pub fn close(p: Page) {
-    let style = p.style;
-    match style {
-        Style::Text => {}
-        Style::Svg => {
-            io::write_all(p.fd, b"</svg>\n");
-        }
-        Style::Count => {}
+// A way to draw the lines of a picture, one after the other.
+pub trait Sheet: Drop {
+    // What stands above the lines, of which there will be so many.
+    fn open<W: fmt::Write>(&self, out: &mut W, view: View, lines: u16) -> fmt::Result;
+
+    // A line with cells, below so many others.
+    fn row<W: fmt::Write>(
+        &self,
+        out: &mut W,
+        view: View,
+        above: u16,
+        label: Label,
+        row: Row<'_>,
+    ) -> fmt::Result;
+
+    // A line without cells.
+    fn note<W: fmt::Write>(&self, out: &mut W, above: u16, label: Label) -> fmt::Result;
+
+    // What stands below the lines.
+    fn close<W: fmt::Write>(&self, out: &mut W) -> fmt::Result;
+}
+
+// Nothing is written, so that the lines are only counted.
+#[derive(Clone, Copy)]
+pub struct Count;
+
+impl Sheet for Count {
+    fn open<W: fmt::Write>(&self, _out: &mut W, _view: View, _lines: u16) -> fmt::Result {
+        Ok(())
+    }
+
+    fn row<W: fmt::Write>(
+        &self,
+        _out: &mut W,
+        _view: View,
+        _above: u16,
+        _label: Label,
+        _row: Row<'_>,
+    ) -> fmt::Result {
+        Ok(())
+    }
+
+    fn note<W: fmt::Write>(&self, _out: &mut W, _above: u16, _label: Label) -> fmt::Result {
+        Ok(())
+    }
+
+    fn close<W: fmt::Write>(&self, _out: &mut W) -> fmt::Result {
+        Ok(())
+    }
+}
+
+// A sheet, what is drawn on it, and how many lines stand there.
+#[derive(Drop)]
+pub struct Page<S> {
+    pub sheet: S,
+    pub view: View,
+    pub lines: u16,
+}
+
+impl<S: Sheet> Page<S> {
+    pub fn open<W: fmt::Write>(&self, out: &mut W, lines: u16) -> fmt::Result {
+        self.sheet.open(out, self.view, lines)
+    }
+
+    pub fn row<W: fmt::Write>(&mut self, out: &mut W, label: Label, row: Row<'_>) -> fmt::Result
+        ensures ok { OnOk result (self.new.lines ≡ one_line_more self.old.lines) }
+        ensures err { OnErr result (self.new.lines ≡ self.old.lines) }
+        ensures kept { (self.new.sheet ≡ self.old.sheet) × (self.new.view ≡ self.old.view) }
+    {
+        self.sheet.row(out, self.view, self.lines, label, row)?;
+        self.lines = self.lines.saturating_add(1);
+        Ok(())
+    }
+
+    pub fn note<W: fmt::Write>(&mut self, out: &mut W, label: Label) -> fmt::Result
+        ensures ok { OnOk result (self.new.lines ≡ one_line_more self.old.lines) }
+        ensures err { OnErr result (self.new.lines ≡ self.old.lines) }
+        ensures kept { (self.new.sheet ≡ self.old.sheet) × (self.new.view ≡ self.old.view) }
+    {
+        self.sheet.note(out, self.lines, label)?;
+        self.lines = self.lines.saturating_add(1);
+        Ok(())
+    }
+
+    pub fn close<W: fmt::Write>(&self, out: &mut W) -> fmt::Result {
+        self.sheet.close(out)
     }
 }

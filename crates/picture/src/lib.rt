@@ -2,181 +2,166 @@
 // It goes by the records alone, so that a refused design is drawn too. (docs/TEXT.md)
 #![tactic(auto)]
 
-use page::{Label, Page, Shown, Style};
+use cells::Line;
+use page::{Count, Label, Page, Row, Sheet, Svg, Text, View};
+use parts::{Component, Interval, Kind, List};
+use records::Class;
+use std::fmt;
 use uses::Uses;
 
-// The line of an instance's input (kind 2) or output (kind 3), made of the component with this record.
-fn port_line(
-    p: Page,
-    list: &[u8],
-    first: usize,
-    made: usize,
-    u: Uses,
-    i: usize,
-    k: u8,
-    n: usize,
-) -> Page {
-    let cycles = parts::port(list, made, k, n);
-    let shown = Shown {
-        instance: uses::half(i),
-        start: uses::half(cycles.start),
-        end: uses::half(cycles.end),
-        own: false,
-    };
-    if k == 2 {
-        page::row(
-            p,
-            Label::InputOf(i, n),
-            u,
-            uses::arguments(list, first, u, uses::half(i), n),
-            shown,
-        )
-    } else {
-        page::row(p, Label::OutputOf(i, n), u, uses::always(), shown)
+// The lines of an instance's inputs or outputs, of which there are at most 16; it is made of this component.
+fn port_rows<S: Sheet, W: fmt::Write>(
+    page: &mut Page<S>,
+    out: &mut W,
+    uses: &Uses<'_>,
+    instance: u16,
+    made: Component<'_>,
+    kind: Kind,
+) -> fmt::Result {
+    for n in 0..16 {
+        let Some(port) = made.port(kind, n) else {
+            break;
+        };
+        let there = if kind == Kind::Input {
+            uses.arguments(instance, n)
+        } else {
+            [Interval::ALWAYS; 64]
+        };
+        let row = Row {
+            line: Line {
+                instance,
+                start: port.start,
+                end: port.end,
+                delay: uses.component.delay,
+            },
+            own: false,
+            uses: &uses.invocations,
+            there: &there,
+        };
+        page.row(out, Label::Of(instance, kind, n), row)?;
     }
-}
-
-fn port_lines(
-    before: Page,
-    list: &[u8],
-    first: usize,
-    made: usize,
-    u: Uses,
-    i: usize,
-    k: u8,
-) -> Page {
-    let count = parts::count(list, made, k, 16);
-    let mut p = before;
-    let mut n = 0;
-    while n < count {
-        p = port_line(p, list, first, made, u, i, k, n);
-        n += 1;
-    }
-    p
+    Ok(())
 }
 
 // The lines of one instance.
-fn instance(p: Page, list: &[u8], first: usize, u: Uses, i: usize) -> Page {
-    let made = parts::component(list, parts::named(list, first, i));
-    let h = parts::head_of(list, made);
-    if !h.there {
-        return page::note(p, Label::Unnamed(i));
+fn instance_rows<S: Sheet, W: fmt::Write>(
+    page: &mut Page<S>,
+    out: &mut W,
+    uses: &Uses<'_>,
+    instance: u16,
+) -> fmt::Result {
+    let component = uses.component;
+    let Some(made) = component.named(usize::from(instance)) else {
+        return page.note(out, Label::Unnamed(instance));
+    };
+    if !uses.invoke(instance) {
+        return page.note(out, Label::Unused(instance));
     }
-    if !uses::invoked(u, uses::half(i)) {
-        return page::note(p, Label::Unused(i));
-    }
-    let busy = Shown {
-        instance: uses::half(i),
-        start: 0,
-        end: uses::half(h.delay),
+    let busy = Row {
+        line: Line {
+            instance,
+            start: 0,
+            end: made.delay,
+            delay: component.delay,
+        },
         own: false,
+        uses: &uses.invocations,
+        there: &[],
     };
-    let p = page::row(p, Label::Busy(i), u, uses::always(), busy);
-    let p = port_lines(p, list, first, made, u, i, 2);
-    port_lines(p, list, first, made, u, i, 3)
+    page.row(out, Label::Busy(instance), busy)?;
+    port_rows(page, out, uses, instance, made, Kind::Input)?;
+    port_rows(page, out, uses, instance, made, Kind::Output)
 }
 
-fn instances(before: Page, list: &[u8], first: usize, u: Uses) -> Page {
-    let count = parts::count(list, first, 4, 32);
-    let mut p = before;
-    let mut i = 0;
-    while i < count {
-        p = instance(p, list, first, u, i);
-        i += 1;
+// The lines of the component's own inputs or outputs, of which there are at most 16: each is used once, at the start.
+// It stands beside `port_rows`, since the line, its uses, its label and what is read there all differ: one function would take each.
+fn own_rows<S: Sheet, W: fmt::Write>(
+    page: &mut Page<S>,
+    out: &mut W,
+    component: Component<'_>,
+    kind: Kind,
+) -> fmt::Result {
+    for n in 0..16 {
+        let Some(port) = component.port(kind, n) else {
+            break;
+        };
+        let there = if kind == Kind::Output {
+            component.connected(n)
+        } else {
+            Interval::ALWAYS
+        };
+        let row = Row {
+            line: Line {
+                instance: 0,
+                start: port.start,
+                end: port.end,
+                delay: component.delay,
+            },
+            own: true,
+            uses: &[Some(uses::once())],
+            there: &[there],
+        };
+        page.row(out, Label::Own(kind, n), row)?;
     }
-    p
+    Ok(())
 }
 
-// The line of one of the component's own inputs (kind 2) or outputs (kind 3): used once, at its start.
-fn own_line(p: Page, list: &[u8], first: usize, k: u8, n: usize) -> Page {
-    let cycles = parts::port(list, first, k, n);
-    let shown = Shown {
-        instance: 0,
-        start: uses::half(cycles.start),
-        end: uses::half(cycles.end),
-        own: true,
-    };
-    if k == 2 {
-        page::row(p, Label::Input(n), uses::once(), uses::always(), shown)
-    } else {
-        page::row(
-            p,
-            Label::Output(n),
-            uses::once(),
-            uses::connection(list, first, n),
-            shown,
-        )
+// All lines; of the instances the first 32.
+fn rows<S: Sheet, W: fmt::Write>(page: &mut Page<S>, out: &mut W, uses: &Uses<'_>) -> fmt::Result {
+    let component = uses.component;
+    own_rows(page, out, component, Kind::Input)?;
+    for instance in (0..32).take(component.count(Kind::Instance)) {
+        instance_rows(page, out, uses, instance)?;
     }
+    own_rows(page, out, component, Kind::Output)
 }
 
-fn own_lines(before: Page, list: &[u8], first: usize, k: u8) -> Page {
-    let count = parts::count(list, first, k, 16);
-    let mut p = before;
-    let mut n = 0;
-    while n < count {
-        p = own_line(p, list, first, k, n);
-        n += 1;
-    }
-    p
-}
-
-fn lines(p: Page, list: &[u8], first: usize, u: Uses) -> Page {
-    let p = own_lines(p, list, first, 2);
-    let p = instances(p, list, first, u);
-    own_lines(p, list, first, 3)
-}
-
-fn page(fd: i32, style: Style, delay: usize, cycles: usize) -> Page {
+fn empty<S: Sheet>(sheet: S, view: View) -> Page<S> {
     Page {
-        fd,
-        style,
-        delay,
-        cycles,
+        sheet,
+        view,
         lines: 0,
     }
 }
 
-// The picture of component c, whose own record is `first`.
-fn component(fd: i32, style: Style, list: &[u8], first: usize, c: usize) {
-    let h = parts::head_of(list, first);
-    let u = uses::all_uses(list, first);
-    let cycles = uses::cycles(list, first, u, h.delay);
-    let counted = lines(page(fd, Style::Count, h.delay, cycles), list, first, u);
-    let p = page(fd, style, h.delay, cycles);
-    page::open(p, c, counted.lines);
-    page::close(lines(p, list, first, u));
-}
-
-// The picture of a built component in text, if record i is its own, of which c stand before; how many stand up to it.
-fn record(fd: i32, list: &[u8], i: usize, c: usize) -> usize {
-    let h = parts::head_of(list, i);
-    if h.there & h.built {
-        component(fd, Style::Text, list, i, c);
-    }
-    if h.there {
-        if c < 3968 {
-            return c + 1;
-        }
-    }
-    c
+// The picture of component c on such a sheet, drawn once before, so that its lines are counted.
+fn picture<S: Sheet, W: fmt::Write>(
+    out: &mut W,
+    sheet: S,
+    component: Component<'_>,
+    c: usize,
+) -> fmt::Result {
+    let uses = Uses::of(component);
+    let view = View {
+        component: c,
+        delay: component.delay,
+        cycles: uses.cycles(),
+    };
+    let mut counted = empty(Count, view);
+    rows(&mut counted, out, &uses)?;
+    let mut page = empty(sheet, view);
+    page.open(out, counted.lines)?;
+    rows(&mut page, out, &uses)?;
+    page.close(out)
 }
 
 // The pictures of all built components, in text.
-pub fn components(fd: i32, list: &[u8]) {
-    let mut c = 0;
-    let mut i = 0;
-    while i < 3968 {
-        c = record(fd, list, i, c);
-        i += 1;
+pub fn components<W: fmt::Write>(out: &mut W, list: &[u8]) -> fmt::Result {
+    let list = List::of(list);
+    let all = (0..list.len()).filter_map(|i| list.component_at(i));
+    for (c, component) in all.enumerate() {
+        if matches!(component.class, Class::Built) {
+            picture(out, Text, component, c)?;
+        }
     }
+    Ok(())
 }
 
 // The picture of component c as SVG; whether there is such a component.
-pub fn svg(fd: i32, list: &[u8], c: usize) -> bool {
-    let first = parts::component(list, c);
-    let h = parts::head_of(list, first);
-    if h.there {
-        component(fd, Style::Svg, list, first, c);
-    }
-    h.there
+pub fn svg<W: fmt::Write>(out: &mut W, list: &[u8], c: usize) -> Result<bool, fmt::Error> {
+    let Some(component) = List::of(list).component(c) else {
+        return Ok(false);
+    };
+    picture(out, Svg, component, c)?;
+    Ok(true)
 }

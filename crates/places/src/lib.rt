@@ -8,7 +8,7 @@ ghost use Rattle.places.specs.Places.{more as one_more};
 use records::Record;
 
 // How many of each kind stand before: components in the file, arguments in the present invocation, all others in the present component.
-#[derive(Clone, Copy)]
+#[derive(Clone, Copy, Debug, Default, PartialEq, Eq)]
 pub struct Place {
     pub components: u64,
     pub inputs: u64,
@@ -19,6 +19,7 @@ pub struct Place {
     pub connections: u64,
 }
 
+// One more, but no more than the last number that two bytes hold; what is past it already stays, so that no minimum says it.
 fn more(n: u64) -> u64
     ensures { result ≡ one_more n }
 {
@@ -29,15 +30,7 @@ impl Place {
     pub fn first() -> Place
         ensures { result ≡ at_first }
     {
-        Place {
-            components: 0,
-            inputs: 0,
-            outputs: 0,
-            instances: 0,
-            invocations: 0,
-            arguments: 0,
-            connections: 0,
-        }
+        Place::default()
     }
 
     // The number of a record that stands here.
@@ -45,11 +38,11 @@ impl Place {
         ensures { result ≡ number_of self x }
     {
         match x {
-            Record::Component(_, _) => self.components,
+            Record::Component(..) => self.components,
             Record::Input(_) => self.inputs,
             Record::Output(_) => self.outputs,
             Record::Instance(_) => self.instances,
-            Record::Invocation(_, _) => self.invocations,
+            Record::Invocation(..) => self.invocations,
             Record::Argument(_) => self.arguments,
             Record::Connection(_) => self.connections,
             Record::Wrong => 0,
@@ -60,23 +53,37 @@ impl Place {
     pub fn after(self, x: Record) -> Place
         ensures { result ≡ after self x }
     {
-        let mut next = self;
         match x {
-            Record::Component(_, _) => {
-                next = Place::first();
-                next.components = more(self.components);
-            }
-            Record::Input(_) => next.inputs = more(self.inputs),
-            Record::Output(_) => next.outputs = more(self.outputs),
-            Record::Instance(_) => next.instances = more(self.instances),
-            Record::Invocation(_, _) => {
-                next.invocations = more(self.invocations);
-                next.arguments = 0;
-            }
-            Record::Argument(_) => next.arguments = more(self.arguments),
-            Record::Connection(_) => next.connections = more(self.connections),
-            Record::Wrong => {}
+            Record::Component(..) => Place {
+                components: more(self.components),
+                ..Place::first()
+            },
+            Record::Input(_) => Place {
+                inputs: more(self.inputs),
+                ..self
+            },
+            Record::Output(_) => Place {
+                outputs: more(self.outputs),
+                ..self
+            },
+            Record::Instance(_) => Place {
+                instances: more(self.instances),
+                ..self
+            },
+            Record::Invocation(..) => Place {
+                invocations: more(self.invocations),
+                arguments: 0,
+                ..self
+            },
+            Record::Argument(_) => Place {
+                arguments: more(self.arguments),
+                ..self
+            },
+            Record::Connection(_) => Place {
+                connections: more(self.connections),
+                ..self
+            },
+            Record::Wrong => self,
         }
-        next
     }
 }

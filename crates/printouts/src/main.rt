@@ -2,15 +2,14 @@
 // It would catch a row, a source or a unit that is not the right one, a limit that is off by one, a count that wraps, and an expansion that never ends.
 #![tactic(auto)]
 
-ghost use Rattle.printed.specs.Opens.{Opens};
-
-use answers::{Verdict, Written};
 use report::STDOUT;
+use std::fmt;
+use std::fmt::Write;
 use std::fs::File;
 use std::os::fd::AsRawFd;
-use verdict::Opening;
 
-#[derive(Drop)]
+// A table of these and a `match` are plainer than seventeen calls with a closure each.
+#[derive(Clone, Copy)]
 enum Printed {
     Rows,
     Starts,
@@ -18,69 +17,58 @@ enum Printed {
     Count,
 }
 
-fn starts_of(file: &[u8], o: Opening, c: usize)
-    requires { Opens file.now o }
-{
-    let mut rows = [0u8; 32768];
-    match listing::list_judged(file, o, c, &mut rows) {
-        Written::Done(k) => {
-            io::write_all(STDOUT, b"starts ");
-            io::print_decimal(STDOUT, k as u64);
-            io::write_all(STDOUT, b"\n");
-        }
-        Written::Refused(r) => report::refusal(STDOUT, r),
-    }
-}
+const PRINTOUTS: [(&str, Printed); 17] = [
+    ("squaring", Printed::Rows),
+    ("squaring", Printed::Starts),
+    ("sources", Printed::Rows),
+    ("sources", Printed::Starts),
+    ("refused", Printed::Rows),
+    ("refused", Printed::Starts),
+    ("deep", Printed::Count),
+    ("empty-levels", Printed::Starts),
+    ("unused-instances", Printed::Starts),
+    ("doubling-16", Printed::Starts),
+    ("doubling-32", Printed::Starts),
+    ("doubling-64", Printed::Starts),
+    ("rows-4096", Printed::Count),
+    ("rows-4097", Printed::Starts),
+    ("units-4096", Printed::Starts),
+    ("units-4097", Printed::Starts),
+    ("hidden", Printed::Count),
+];
 
 // How many starts the last component has.
-fn count(file: &[u8]) {
+fn count<W: fmt::Write>(out: &mut W, file: &[u8]) -> fmt::Result {
     let o = verdict::open_alone(file);
-    let verdict = o.verdict;
-    match verdict {
-        Verdict::Accepted {
-            components,
-            records: _,
-        } => {
-            if 0 < components {
-                starts_of(file, o, components - 1);
-            }
-        }
-        Verdict::Refused(r) => report::refusal(STDOUT, r),
+    let starts = match o.verdict {
+        // A file with no component has no last one.
+        Ok(counts) if counts.components == 0 => return Ok(()),
+        Ok(counts) => listing::list_judged(file, o, counts.components - 1, &mut [0; 32768]),
+        Err(r) => Err(r),
+    };
+    match starts {
+        Ok(n) => writeln!(out, "starts {n}"),
+        Err(r) => writeln!(out, "{r}"),
     }
 }
 
 fn printout(rt: &HostRuntime, name: &str, what: Printed) {
-    let mut file = [0u8; 66048];
-    let n = match File::open(rt, name) {
-        Ok(opened) => io::read_full(opened.as_raw_fd(), &mut file),
-        // What cannot be opened is printed as an empty file.
-        Err(_) => 0,
-    };
-    io::write_all(STDOUT, name.as_bytes());
-    io::write_all(STDOUT, b"\n");
-    match what {
-        Printed::Rows => printed::lowered(STDOUT, &file[..n]),
-        Printed::Starts => printed::last_listed(STDOUT, &file[..n]),
-        Printed::Count => count(&file[..n]),
-    }
+    let mut file = [0; 66048];
+    // What cannot be opened is printed as an empty file.
+    let n = File::open(rt, name).map_or(0, |f| io::read_full(f.as_raw_fd(), &mut file));
+    let file = &file[..n];
+    report::print(STDOUT, |out| {
+        writeln!(out, "{name}")?;
+        match what {
+            Printed::Rows => printed::lowered(out, file),
+            Printed::Starts => printed::last_listed(out, file),
+            Printed::Count => count(out, file),
+        }
+    });
 }
 
 fn main(rt: HostRuntime) {
-    printout(&rt, "squaring", Printed::Rows);
-    printout(&rt, "squaring", Printed::Starts);
-    printout(&rt, "sources", Printed::Rows);
-    printout(&rt, "sources", Printed::Starts);
-    printout(&rt, "refused", Printed::Rows);
-    printout(&rt, "refused", Printed::Starts);
-    printout(&rt, "deep", Printed::Count);
-    printout(&rt, "empty-levels", Printed::Starts);
-    printout(&rt, "unused-instances", Printed::Starts);
-    printout(&rt, "doubling-16", Printed::Starts);
-    printout(&rt, "doubling-32", Printed::Starts);
-    printout(&rt, "doubling-64", Printed::Starts);
-    printout(&rt, "rows-4096", Printed::Count);
-    printout(&rt, "rows-4097", Printed::Starts);
-    printout(&rt, "units-4096", Printed::Starts);
-    printout(&rt, "units-4097", Printed::Starts);
-    printout(&rt, "hidden", Printed::Count);
+    for (name, what) in PRINTOUTS {
+        printout(&rt, name, what);
+    }
 }

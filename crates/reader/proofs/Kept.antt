@@ -40,18 +40,16 @@ module _ (held : ℕ → Row) (instances offsets outputs firsts : List ℕ) (r :
 
 -- v: the row of the instance that it invokes.
 module _ (v : Signature) (instances offsets outputs firsts : List ℕ) (r : Reader) where
-  pub kept_invocation : (q : Reader) (s : Place) (n k j a b f m d : ℕ) → j ≡ r.place.invocations → a ≡ v.first → b ≡ v.inputs → f ≡ v.first → m ≡ v.inputs → d ≡ k
-      → seen s ≡ moved (seen r.place) (invocation no_call) m
-      → q ≡ record { place = s; delay = r.delay; number = r.number; first = r.first; input = f + 1; offset = d }
+  pub kept_invocation : (s : Place) (n k f m d : ℕ) → f ≡ v.first → m ≡ v.inputs → d ≡ k → seen s ≡ moved (seen r.place) (invocation no_call) m
       → state
-      q
+      (record { place = s; delay = r.delay; number = r.number; first = r.first; input = f + 1; offset = d })
       (λ x. row v)
-      (set instances j n)
-      (set offsets j k)
-      (set outputs j v.outputs)
-      (set firsts j (a + 1 + b))
+      (set instances r.place.invocations n)
+      (set offsets r.place.invocations k)
+      (set outputs r.place.invocations v.outputs)
+      (set firsts r.place.invocations (v.first + 1 + v.inputs))
       ≡ part_went (state r (λ x. row v) instances offsets outputs firsts) (invocation (record { instance = n; offset = k }))
-  kept_invocation q s n k j a b f m d g h i l o y x w = rw (w, x, g, h, i, l, o, y)
+  kept_invocation s n k f m d e g h w = rw (w, e, g, h)
 
 -- Refused, or gone on.
 module _ (look : ℕ → Design.Port) (s : State) (p : ℕ) (x : Record) (m n : ℕ) (s' : State) (is : n ≡ first_failed (tests look (reads (viewed none s)) x)) where

@@ -59,14 +59,12 @@ module _ (r : Reader) (instances offsets firsts least greatest : List ℕ) (h : 
     high_more m o p (yes e) = rw (e, get_or-set_same greatest n (max (get_or greatest n 0) k) 0 (omega (arith, n-range, h.sizes.4))) (omega (arith, (rw e at p)))
     high_more m o p (no d) = rw (get_or-set_other greatest n m (max (get_or greatest n 0) k) 0 d) p
 
-    pub noted_invocation : (q : Reader) (s : Place) (x : Reading.Place) (j at l g f : ℕ) → q.place ≡ s → seen s ≡ x → x.invocations ≡ r.place.invocations + 1 → x.built ≡ r.place.built → r.place.built ≡ true
-        → j ≡ r.place.invocations → j < 64 → at ≡ n → l ≡ min (get_or least at 0) k → g ≡ max (get_or greatest at 0) k → f < 134000000
-        → Noted q (set instances j n) (set offsets j k) (set firsts j f) (set least at l) (set greatest at g)
-    noted_invocation q s x j at l g f e w a b t ej room ea el eg near =
-        let i : q.place.invocations ≡ j + 1 = omega (arith, ap (λ (y : Place). y.invocations) e, ap (λ (y : Reading.Place). y.invocations) w, a, ej) in
-        let u : q.place.built ≡ true = ap (λ (y : Place). y.built) e ∙ ap (λ (y : Reading.Place). y.built) w ∙ b ∙ t in
-        rw (el, eg, ea)
-        (record {
+    pub noted_invocation : (q : Reader) (x : Reading.Place) (j f : ℕ) → seen q.place ≡ x → x.invocations ≡ r.place.invocations + 1 → x.built ≡ r.place.built → r.place.built ≡ true → j ≡ r.place.invocations → j < 64 → f < 134000000
+        → Noted q (set instances j n) (set offsets j k) (set firsts j f) (set least n (min (get_or least n 0) k)) (set greatest n (max (get_or greatest n 0) k))
+    noted_invocation q x j f w a b t ej room near =
+        let i : q.place.invocations ≡ j + 1 = omega (arith, ap (λ (y : Reading.Place). y.invocations) w, a, ej) in
+        let u : q.place.built ≡ true = ap (λ (y : Reading.Place). y.built) w ∙ b ∙ t in
+        record {
           low = λ m p. low_at m (omega (arith, p, i)) (ℕ_discrete m j);
           high = λ m p. high_at m (omega (arith, p, i)) (ℕ_discrete m j);
           small = λ m p. small_at m (omega (arith, p, i)) (ℕ_discrete m j);
@@ -74,7 +72,7 @@ module _ (r : Reader) (instances offsets firsts least greatest : List ℕ) (h : 
           near = λ m. near_at m (ℕ_discrete m j);
           sizes = (length-set instances j n ∙ h.sizes.0, length-set offsets j k ∙ h.sizes.1, length-set firsts j f ∙ h.sizes.2, length-set least n (min (get_or least n 0) k) ∙ h.sizes.3, length-set greatest n (max (get_or greatest n 0) k) ∙ h.sizes.4);
           built = λ p. u;
-        })
+        }
       where
         low_at : (m : ℕ) → m < j + 1 → Dec (m ≡ j) → get_or (set least n (min (get_or least n 0) k)) (get_or (set instances j n) m 0) 0 ≤ get_or (set offsets j k) m 0
         low_at m p (yes z) =

@@ -7,8 +7,7 @@ use mathlib.Core.List.{[], ◌∷◌}
 use lib.Dec.{T, eqb, ltb, ltb→lt}
 use native.Mathlib.Omega.{arith}
 use borrow.Author.Tests.{ne_eqb}
-use Rattle.answers.specs.declared.Refusal.{Refusal}
-use Rattle.answers.specs.Answer.{Answer, refused, Counts, Numbered}
+use Rattle.answers.specs.Answer.{Answer, refused, Counts, Numbered, Refusal}
 use Rattle.timeline.specs.Design.{Port, Call, Source, own, output_of, constant}
 use Rattle.entry.specs.Records.{Part, input, output, instance, invocation, argument, connection, Record, wrong, component, part}
 use Rattle.reading.specs.Scan.{Tests, tried}

@@ -2,3 +2,5 @@
 pub mod Rows
 pub mod State
 pub mod Noted
+pub mod Alike
+pub mod Earlier

@@ -1,6 +1,7 @@
 -- What the reader keeps beside the table, how the theory sees it, and what it keeps after a record.
 -- Assumes nothing.
-use Rattle.std.specs.Prelude.{ℕ, ◌+◌, ◌≤◌, ◌<◌, Bool, true, false, ◌≡◌, List, [], get_or, set, replicate}
+use Rattle.std.specs.Prelude.{ℕ, ◌+◌, ◌≤◌, ◌<◌, Bool, true, false, ◌≡◌, List, [], get_or, set, replicate, Result, Ok, Err}
+use Rattle.answers.specs.declared.fault.Fault.{Fault}
 use Rattle.timeline.specs.Design.{Class, leaf, Port}
 use Rattle.entry.specs.Records.{Part, input, output, instance, invocation, argument, connection, Record, wrong, component, part}
 use Rattle.reading.specs.Tests.{is_built}
@@ -42,6 +43,11 @@ state r held instances offsets outputs output_records =
       outputs = outputs;
       output_records = output_records;
     }
+
+-- What is kept after a record: what a turn hands back, and where it refuses what was kept before.
+abbrev pub after : Reader → Result Reader Fault → Reader
+after r (Ok s) = s
+after r (Err f) = r
 
 -- Of no invocation yet; its instance is none.
 abbrev pub zeros : List ℕ

@@ -2,28 +2,32 @@
 // The definitions are those of `specs/State.antt`; the theory of reading says what they are good for.
 #![tactic(auto)]
 
-ghost use Rattle.std.specs.Prelude.{◌≡◌, [], true, ◌+◌, ◌-◌, ◌*◌, ◌≤◌, ◌<◌, min, max, length};
+ghost use Rattle.std.specs.Prelude.{◌≡◌, [], true, ◌+◌, ◌*◌, ◌≤◌, ◌<◌, min, max, length, replicate, get_or, set};
+ghost use Rattle.answers.specs.Answer.{broken};
 ghost use Rattle.timeline.specs.Design.{leaf};
 ghost use Rattle.timeline.specs.Rules.{SourceRange};
-ghost use Rattle.entry.specs.Records.{component, part, input, output, instance, invocation, argument, connection};
-ghost use Rattle.reading.specs.Tests.{is_built};
+ghost use Rattle.entry.specs.Records.{component, instance, invocation, argument, connection};
 ghost use Rattle.reading.specs.Reader.{reads, tests, part_tests, source_tests};
 ghost use Rattle.reading.specs.Reads.{Ranged};
 ghost use Rattle.records.specs.Says.{says, source, port, class};
 ghost use Rattle.rules.specs.Failed.{first_failed};
 ghost use Rattle.rules.specs.Calls.{no_look};
-ghost use Rattle.rules.specs.Known.{Known};
 ghost use Rattle.look.specs.Look.{look};
-ghost use Rattle.reader.specs.Rows.{bit, signature, row, row_in, put_row, none};
-ghost use Rattle.reader.specs.State.{state, fresh, before, begin, viewed, bare, own_row, opened, named, is_component, Few, Turned};
+ghost use Rattle.reader.specs.Rows.{signature, row, row_in, put_row, none};
+ghost use Rattle.reader.specs.State.{state, after, fresh, before, begin, viewed, bare, own_row, opened, named, is_component, Few, Turned};
 ghost use Rattle.reader.specs.Noted.{Near, Noted};
+ghost use Rattle.reader.specs.Alike.{allowed_tests, port_tests};
+ghost use Rattle.reader.specs.Earlier.{earlier};
 
-use answers::fault;
+use answers::Fault;
 use order::Place;
 use records::{Class, Port, Record, Source};
 use signatures::Signature;
 
 // Of the component that is being read; and while an argument is due, the record of the input that it feeds and the invocation's offset.
+// Machine words: with sixteen-bit fields judging takes a quarter more instructions (docs/DECISIONS.md, "The verdict").
+// `Few` is in the contracts and not in the type: `opened` makes a reader of any component's number and asks nothing of it, and with
+// `Few` in the type it would have to ask that the number is below 64.
 #[derive(Clone, Copy)]
 pub struct Reader {
     pub place: Place,
@@ -34,66 +38,8 @@ pub struct Reader {
     pub offset: usize,
 }
 
-fn size(x: u16) -> usize
-    ensures { (result ≡ x) × (result < 65536) }
-{
-    x as usize
-}
-
-fn size32(x: u32) -> usize
-    ensures { (result ≡ x) × (result < 4294967296) }
-{
-    x as usize
-}
-
-fn wide(x: u16) -> u32
-    ensures { (result ≡ x) × (result < 65536) }
-{
-    x as u32
-}
-
-fn half(x: usize) -> u16
-    requires { x < 65536 }
-    ensures { result ≡ x }
-{
-    x as u16
-}
-
-fn lesser(a: u16, b: u16) -> u16
-    ensures { result ≡ min a b }
-{
-    if a < b { a } else { b }
-}
-
-fn greater(a: u16, b: u16) -> u16
-    ensures { result ≡ max a b }
-{
-    if a < b { b } else { a }
-}
-
-fn bit(built: bool) -> u16
-    ensures { result ≡ bit built }
-{
-    if built { 1 } else { 0 }
-}
-
-fn one_less(x: usize) -> usize
-    ensures { result ≡ x - 1 }
-{
-    if 0 < x { x - 1 } else { 0 }
-}
-
-#[tactic(auto, unfolding(reading::specs::Tests::is_built))]
-fn is_built(k: Class) -> bool
-    ensures { result ≡ is_built (class k) }
-{
-    match k {
-        Class::Leaf => false,
-        Class::Built => true,
-    }
-}
-
-// Row c of a table, five numbers to a row.
+// Row c of a table, five numbers to a row: whatever is above the verdict passes the rows on as one array by value
+// (docs/DECISIONS.md, "The lent table").
 #[tactic(auto, unfolding(crate::specs::Rows::row_in))]
 pub fn row_of(rows: &[u16], c: usize) -> Signature
     requires { 5 * c + 5 ≤ length rows.now }
@@ -122,201 +68,194 @@ pub fn put_row(rows: &mut [u16], c: usize, s: Signature)
     rows[at + 4] = s.first;
 }
 
-// 5 and 6 of a component record.
-fn component_refusal(r: Reader) -> u8
-    requires { Few r }
-    ensures { result ≡ first_failed (tests no_look (reads (bare r)) (component leaf 0)) }
-{
-    let place = r.place;
-    rules::first(
-        place.may_end(),
-        fault::PLACE,
-        rules::first(r.number + 1 < 64, fault::TOO_MANY, 0),
-    )
+// What is kept of the invocations beside the reader: of each its instance, its offset, how many outputs it has and the record of the first
+// of them; and of each instance what the offsets of its invocations lie between.
+// Instances and offsets are arrays of numbers and not one of structs, since all places are asked, and only so does the compiler ask
+// several at once, sixteen bits wide (docs/DECISIONS.md, "Bounds before pairs"). For the same reason 65,535 names no instance, and there
+// is no `Option`: it would be wider. The other four stand as arrays beside them, since the definitions (`state`, `Noted`) speak of each
+// as a list of its own, so that structs would be taken apart there again: no plainer.
+#[derive(Clone, Copy)]
+pub struct Invocations {
+    pub instances: [u16; 64],
+    pub offsets: [u16; 64],
+    pub outputs: [u16; 64],
+    pub firsts: [u32; 64],
+    pub least: [u16; 32],
+    pub greatest: [u16; 32],
 }
 
-fn input_refusal(r: Reader, p: Port) -> u8
-    requires { Few r }
-    ensures { result ≡ first_failed (part_tests no_look (bare r) (input (port p))) }
-{
-    let place = r.place;
-    if !place.may_input() {
-        return fault::PLACE;
-    }
-    if !place.room_for_input() {
-        return fault::TOO_MANY;
-    }
-    if !rules::interval_kept(p, half(r.delay)) {
-        return fault::INTERVAL;
-    }
-    0
-}
-
-fn output_refusal(r: Reader, q: Port) -> u8
-    requires { Few r }
-    ensures { result ≡ first_failed (part_tests no_look (bare r) (output (port q))) }
-{
-    let place = r.place;
-    if !place.may_output() {
-        return fault::PLACE;
-    }
-    if !place.room_for_output() {
-        return fault::TOO_MANY;
-    }
-    if !rules::interval_kept(q, half(r.delay)) {
-        return fault::INTERVAL;
-    }
-    0
-}
-
-// c: the component that it is an instance of.
-fn instance_refusal(r: Reader, c: u16) -> u8
-    ensures { result ≡ first_failed (part_tests no_look (bare r) (instance c)) }
-{
-    let place = r.place;
-    if !place.may_instance() {
-        return fault::PLACE;
-    }
-    if !place.room_for_instance() {
-        return fault::TOO_MANY;
-    }
-    if r.number <= size(c) {
-        return fault::REFERENCE;
-    }
-    0
-}
-
-// n: its instance, whose invocations have offsets from `least` to `greatest`. k: its offset. v: the row of the component that it invokes.
-fn invocation_refusal(
-    r: Reader,
-    n: u16,
-    k: u16,
-    v: Signature,
-    instances: &[u16; 64],
-    offsets: &[u16; 64],
-    least: u16,
-    greatest: u16,
-) -> u8
-    requires { Few r × (k < 1024) × Known instances.now offsets.now r.place.invocations n least greatest }
-    ensures { result ≡ first_failed (part_tests no_look (viewed none (state r (λ m. row v) instances.now offsets.now [] [])) (invocation (record { instance = n; offset = k }))) }
-{
-    let place = r.place;
-    if !place.may_invocation() {
-        return fault::PLACE;
-    }
-    if 64 <= place.invocations {
-        return fault::TOO_MANY;
-    }
-    rules::invocation_refusal(
-        place.instances,
-        half(r.delay),
-        instances,
-        offsets,
-        place.invocations,
-        n,
-        k,
-        v.delay,
-        least,
-        greatest,
-    )
-}
-
-// 7, 8 and 12 of a source, of invocations before number `before`, that is read at port q, its event at cycle k.
-fn source_refusal(
-    file: &[u8],
-    r: Reader,
-    before: usize,
-    x: Source,
-    q: Port,
-    k: u16,
-    offsets: &[u16; 64],
-    outputs: &[u16; 64],
-    firsts: &[u32; 64],
-) -> u8
-    requires { (SourceRange (source x)) × Few r × (24 ≤ length file.now) × Near firsts.now }
-    ensures { result ≡ first_failed (source_tests (look file.now) (viewed none (state r none [] offsets.now outputs.now firsts.now)) before (source x) (port q) k) }
-{
-    match x {
-        Source::Own(i) => {
-            let place = r.place;
-            if place.inputs <= size(i) {
-                return fault::REFERENCE;
-            }
-            let p = look::port_in(file, r.first + 1 + size(i));
-            rules::fed_refusal(p, 0, q, k)
+impl Invocations {
+    // Of no invocation yet; its instance is none.
+    pub fn none() -> Invocations
+        ensures { result ≡ record { instances = replicate 64 65535; offsets = replicate 64 0; outputs = replicate 64 0; firsts = replicate 64 0; least = replicate 32 65535; greatest = replicate 32 0 } }
+    {
+        Invocations {
+            instances: [65535; 64],
+            offsets: [0; 64],
+            outputs: [0; 64],
+            firsts: [0; 64],
+            least: [65535; 32],
+            greatest: [0; 32],
         }
-        Source::Output(j, o) => {
-            let at = size(j);
-            if before <= at {
-                return fault::REFERENCE;
-            }
-            if outputs[at] <= o {
-                return fault::REFERENCE;
-            }
-            let p = look::port_in(file, size32(firsts[at]) + size(o));
-            rules::fed_refusal(p, offsets[at], q, k)
+    }
+
+    // One more, number j: its instance n, its offset k, and the row v of the component that it invokes.
+    fn note(&mut self, j: usize, n: u16, k: u16, v: Signature)
+        requires { (j < 64) × (n < 32) }
+        ensures { self.new ≡ record { instances = set self.old.instances j n; offsets = set self.old.offsets j k; outputs = set self.old.outputs j v.outputs; firsts = set self.old.firsts j (v.first + 1 + v.inputs); least = set self.old.least n (min (get_or self.old.least n 0) k); greatest = set self.old.greatest n (max (get_or self.old.greatest n 0) k) } }
+    {
+        let at = usize::from(n);
+        self.instances[j] = n;
+        self.offsets[j] = k;
+        self.greatest[at] = self.greatest[at].max(k);
+        self.least[at] = self.least[at].min(k);
+        self.outputs[j] = v.outputs;
+        self.firsts[j] = u32::from(v.first) + 1 + u32::from(v.inputs);
+    }
+}
+
+// 5 and 6 of a record: whether it may stand here, and whether there is room for one more of its kind.
+fn allowed(may: bool, room: bool) -> Result<(), Fault>
+    ensures { broken result ≡ first_failed (allowed_tests may room) }
+{
+    if !may {
+        return Err(Fault::Place);
+    }
+    if !room {
+        return Err(Fault::TooMany);
+    }
+    Ok(())
+}
+
+impl Reader {
+    // 5 and 6 of a component record.
+    fn component_refusal(self) -> Result<(), Fault>
+        requires { Few self }
+        ensures { broken result ≡ first_failed (tests no_look (reads (bare self)) (component leaf 0)) }
+    {
+        allowed(self.place.may_end(), self.number + 1 < 64)
+    }
+
+    // 5, 6 and 9 of an input or an output.
+    fn port_refusal(self, may: bool, room: bool, p: Port) -> Result<(), Fault>
+        requires { Few self }
+        ensures { broken result ≡ first_failed (port_tests may room self.delay (port p)) }
+    {
+        allowed(may, room)?;
+        if !rules::interval_kept(p, self.delay as u16) {
+            return Err(Fault::Interval);
         }
-        Source::Constant(v) => rules::constant_refusal(v, q),
+        Ok(())
+    }
+
+    // c: the component that it is an instance of.
+    fn instance_refusal(self, c: u16) -> Result<(), Fault>
+        ensures { broken result ≡ first_failed (part_tests no_look (bare self) (instance c)) }
+    {
+        allowed(self.place.may_instance(), self.place.room_for_instance())?;
+        if self.number <= usize::from(c) {
+            return Err(Fault::Reference);
+        }
+        Ok(())
+    }
+
+    // n: its instance. k: its offset. v: the row of the component that it invokes.
+    fn invocation_refusal(
+        self,
+        n: u16,
+        k: u16,
+        v: Signature,
+        kept: &Invocations,
+    ) -> Result<(), Fault>
+        requires { Few self × (n < 32) × (k < 1024) × Noted self kept.now.instances kept.now.offsets kept.now.firsts kept.now.least kept.now.greatest }
+        ensures { broken result ≡ first_failed (part_tests no_look (viewed none (state self (λ m. row v) kept.now.instances kept.now.offsets [] [])) (invocation (record { instance = n; offset = k }))) }
+    {
+        allowed(
+            self.place.may_invocation(),
+            self.place.room_for_invocation(),
+        )?;
+        let at = usize::from(n);
+        let comes = rules::Invocation {
+            instance: n,
+            offset: k,
+            delay: v.delay,
+            instances: &kept.instances,
+            offsets: &kept.offsets,
+            count: self.place.invocations,
+            least: kept.least[at],
+            greatest: kept.greatest[at],
+        };
+        comes.refusal(self.place.instances, self.delay as u16)
     }
 }
 
-fn argument_refusal(
-    file: &[u8],
-    r: Reader,
-    x: Source,
-    offsets: &[u16; 64],
-    outputs: &[u16; 64],
-    firsts: &[u32; 64],
-) -> u8
-    requires { (SourceRange (source x)) × Few r × (r.input < 1048576) × (0 < r.place.due → r.place.built ≡ true) × (24 ≤ length file.now) × Near firsts.now }
-    ensures { result ≡ first_failed (part_tests (look file.now) (viewed none (state r none [] offsets.now outputs.now firsts.now)) (argument (source x))) }
-{
-    let place = r.place;
-    if !place.may_argument() {
-        return fault::PLACE;
-    }
-    let q = look::port_in(file, r.input);
-    let before = one_less(place.invocations);
-    source_refusal(
-        file,
-        r,
-        before,
-        x,
-        q,
-        half(r.offset),
-        offsets,
-        outputs,
-        firsts,
-    )
+// What a source is judged by: the file, the reader and what is kept of the invocations.
+#[derive(Clone, Copy)]
+struct Before<'a> {
+    file: &'a [u8],
+    reader: Reader,
+    kept: &'a Invocations,
+    ghost whole: { 24 ≤ length file.now },
+    ghost few: { Few reader },
+    ghost near: { Near kept.now.firsts },
 }
 
-fn connection_refusal(
-    file: &[u8],
-    r: Reader,
-    x: Source,
-    offsets: &[u16; 64],
-    outputs: &[u16; 64],
-    firsts: &[u32; 64],
-) -> u8
-    requires { (SourceRange (source x)) × Few r × (24 ≤ length file.now) × Near firsts.now }
-    ensures { result ≡ first_failed (part_tests (look file.now) (viewed none (state r none [] offsets.now outputs.now firsts.now)) (connection (source x))) }
-{
-    let place = r.place;
-    if !place.may_connection() {
-        return fault::PLACE;
+impl Before<'_> {
+    // 7, 8 and 12 of a source, of invocations before number `before`, that is read at port q, its event at cycle k.
+    fn source_refusal(self, before: usize, x: Source, q: Port, k: u16) -> Result<(), Fault>
+        requires { SourceRange (source x) }
+        ensures { broken result ≡ first_failed (source_tests (look self.entry.file.now) (earlier self.entry.reader self.entry.kept.now) before (source x) (port q) k) }
+    {
+        let file = self.file;
+        match x {
+            Source::Own(i) => {
+                if self.reader.place.inputs <= usize::from(i) {
+                    return Err(Fault::Reference);
+                }
+                let p = look::port_in(file, self.reader.first + 1 + usize::from(i));
+                rules::fed_refusal(p, 0, q, k)
+            }
+            Source::Output(j, o) => {
+                let at = usize::from(j);
+                let kept = self.kept;
+                if before <= at || kept.outputs[at] <= o {
+                    return Err(Fault::Reference);
+                }
+                let p = look::port_in(file, kept.firsts[at] as usize + usize::from(o));
+                rules::fed_refusal(p, kept.offsets[at], q, k)
+            }
+            Source::Constant(v) => rules::constant_refusal(v, q),
+        }
     }
-    let q = look::port_in(file, r.first + 1 + place.inputs + place.connections);
-    source_refusal(
-        file,
-        r,
-        place.invocations,
-        x,
-        q,
-        0,
-        offsets,
-        outputs,
-        firsts,
-    )
+
+    fn argument_refusal(self, x: Source) -> Result<(), Fault>
+        requires { (SourceRange (source x)) × (self.reader.input < 1048576) × (0 < self.reader.place.due → self.reader.place.built ≡ true) }
+        ensures { broken result ≡ first_failed (part_tests (look self.entry.file.now) (earlier self.entry.reader self.entry.kept.now) (argument (source x))) }
+    {
+        let file = self.file;
+        if !self.reader.place.may_argument() {
+            return Err(Fault::Place);
+        }
+        let q = look::port_in(file, self.reader.input);
+        let before = self.reader.place.invocations.saturating_sub(1);
+        self.source_refusal(before, x, q, self.reader.offset as u16)
+    }
+
+    fn connection_refusal(self, x: Source) -> Result<(), Fault>
+        requires { SourceRange (source x) }
+        ensures { broken result ≡ first_failed (part_tests (look self.entry.file.now) (earlier self.entry.reader self.entry.kept.now) (connection (source x))) }
+    {
+        let file = self.file;
+        let place = self.reader.place;
+        if !place.may_connection() {
+            return Err(Fault::Place);
+        }
+        let q = look::port_in(
+            file,
+            self.reader.first + 1 + place.inputs + place.connections,
+        );
+        self.source_refusal(place.invocations, x, q, 0)
+    }
 }
 
 // The instance that a record names, 0 for none.
@@ -325,14 +264,8 @@ pub fn named(x: Record) -> usize
     ensures { (result ≡ named (says x)) × (result < 32) }
 {
     match x {
-        Record::Component(_, _) => 0,
-        Record::Input(_) => 0,
-        Record::Output(_) => 0,
-        Record::Instance(_) => 0,
-        Record::Invocation(n, _) => size(n),
-        Record::Argument(_) => 0,
-        Record::Connection(_) => 0,
-        Record::Wrong => 0,
+        Record::Invocation(n, _) => usize::from(n),
+        _ => 0,
     }
 }
 
@@ -340,16 +273,7 @@ pub fn named(x: Record) -> usize
 pub fn is_component(x: Record) -> bool
     ensures { result ≡ is_component (says x) }
 {
-    match x {
-        Record::Component(_, _) => true,
-        Record::Input(_) => false,
-        Record::Output(_) => false,
-        Record::Instance(_) => false,
-        Record::Invocation(_, _) => false,
-        Record::Argument(_) => false,
-        Record::Connection(_) => false,
-        Record::Wrong => false,
-    }
+    matches!(x, Record::Component(_, _))
 }
 
 // The row of the component that has been read.
@@ -358,158 +282,105 @@ pub fn own_row(r: Reader) -> Signature
     requires { Few r }
     ensures { result ≡ signature (own_row (fresh r)) }
 {
-    let place = r.place;
     Signature {
-        class: bit(place.built),
-        delay: half(r.delay),
-        inputs: half(place.inputs),
-        outputs: half(place.outputs),
-        first: half(r.first),
-    }
-}
-
-// The same at another place.
-fn moved(r: Reader, place: Place) -> Reader
-    ensures { result ≡ record { place = place; delay = r.delay; first = r.first; number = r.number; input = r.input; offset = r.offset } }
-{
-    Reader {
-        place,
-        delay: r.delay,
-        first: r.first,
-        number: r.number,
-        input: r.input,
-        offset: r.offset,
+        class: u16::from(r.place.built),
+        delay: r.delay as u16,
+        inputs: r.place.inputs as u16,
+        outputs: r.place.outputs as u16,
+        first: r.first as u16,
     }
 }
 
 // A component begins.
+#[tactic(auto, unfolding(reading::specs::Tests::is_built))]
 fn begin(k: Class, delay: u16, first: u16, number: usize) -> Reader
     ensures { fresh result ≡ begin (class k) delay first number }
 {
-    let built = is_built(k);
     Reader {
-        place: order::begun(built),
-        delay: size(delay),
-        first: size(first),
+        place: order::begun(matches!(k, Class::Built)),
+        delay: usize::from(delay),
+        first: usize::from(first),
         number,
         input: 0,
         offset: 0,
     }
 }
 
-// A refusal's number, 0 for none, and what is kept where there is none.
-#[derive(Clone, Copy)]
-pub struct Outcome {
-    pub refusal: u8,
-    pub reader: Reader,
-}
-
-fn answered(refusal: u8, reader: Reader) -> Outcome
-    ensures { (result.refusal ≡ refusal) × (result.reader ≡ reader) }
-{
-    Outcome { refusal, reader }
-}
-
 // Record number p. v: the row of the instance that it names. A component record is looked at only for its refusal.
-// least, greatest: of each instance, what the offsets of its invocations lie between.
 pub fn turn(
     file: &[u8],
     r: Reader,
     x: Record,
     p: u16,
     v: Signature,
-    instances: &mut [u16; 64],
-    offsets: &mut [u16; 64],
-    outputs: &mut [u16; 64],
-    firsts: &mut [u32; 64],
-    least: &mut [u16; 32],
-    greatest: &mut [u16; 32],
-) -> Outcome
-    requires { Ranged (says x) × Few r × (r.input ≤ 65536 + p) × (24 ≤ length file.now) × Noted r instances.old offsets.old firsts.old least.old greatest.old }
-    ensures { Noted result.reader instances.new offsets.new firsts.new least.new greatest.new × Turned (look file.now) (state r (λ m. row v) instances.old offsets.old outputs.old firsts.old) p (says x) result.refusal (state result.reader (λ m. row v) instances.new offsets.new outputs.new firsts.new) }
+    kept: &mut Invocations,
+) -> Result<Reader, Fault>
+    requires { Ranged (says x) × Few r × (r.input ≤ 65536 + p) × (24 ≤ length file.now) × Noted r kept.old.instances kept.old.offsets kept.old.firsts kept.old.least kept.old.greatest }
+    ensures { Noted (after r result) kept.new.instances kept.new.offsets kept.new.firsts kept.new.least kept.new.greatest × Turned (look file.now) (state r (λ m. row v) kept.old.instances kept.old.offsets kept.old.outputs kept.old.firsts) p (says x) (broken result) (state (after r result) (λ m. row v) kept.new.instances kept.new.offsets kept.new.outputs kept.new.firsts) }
 {
+    let place = r.place;
     match x {
-        Record::Component(_, _) => answered(component_refusal(r), r),
+        Record::Component(_, _) => {
+            r.component_refusal()?;
+            Ok(r)
+        }
         Record::Input(q) => {
-            let no = input_refusal(r, q);
-            if no != 0 {
-                return answered(no, r);
-            }
-            let place = r.place;
-            answered(0, moved(r, place.input()))
+            r.port_refusal(place.may_input(), place.room_for_input(), q)?;
+            Ok(Reader {
+                place: place.input(),
+                ..r
+            })
         }
         Record::Output(q) => {
-            let no = output_refusal(r, q);
-            if no != 0 {
-                return answered(no, r);
-            }
-            let place = r.place;
-            answered(0, moved(r, place.output()))
+            r.port_refusal(place.may_output(), place.room_for_output(), q)?;
+            Ok(Reader {
+                place: place.output(),
+                ..r
+            })
         }
         Record::Instance(c) => {
-            let no = instance_refusal(r, c);
-            if no != 0 {
-                return answered(no, r);
-            }
-            let place = r.place;
-            answered(0, moved(r, place.instance()))
+            r.instance_refusal(c)?;
+            Ok(Reader {
+                place: place.instance(),
+                ..r
+            })
         }
         Record::Invocation(n, k) => {
-            let at = size(n);
-            let high = greatest[at];
-            let low = least[at];
-            let no = invocation_refusal(r, n, k, v, instances, offsets, low, high);
-            if no != 0 {
-                return answered(no, r);
-            }
-            let place = r.place;
-            let j = place.invocations;
-            instances[j] = n;
-            offsets[j] = k;
-            greatest[at] = greater(high, k);
-            least[at] = lesser(low, k);
-            outputs[j] = v.outputs;
-            firsts[j] = wide(v.first) + 1 + wide(v.inputs);
-            answered(
-                0,
-                Reader {
-                    place: place.invocation(size(v.inputs)),
-                    delay: r.delay,
-                    number: r.number,
-                    first: r.first,
-                    input: size(v.first) + 1,
-                    offset: size(k),
-                },
-            )
+            r.invocation_refusal(n, k, v, kept)?;
+            kept.note(place.invocations, n, k, v);
+            Ok(Reader {
+                place: place.invocation(usize::from(v.inputs)),
+                input: usize::from(v.first) + 1,
+                offset: usize::from(k),
+                ..r
+            })
         }
         Record::Argument(a) => {
-            let s = a.source;
-            let no = argument_refusal(file, r, s, offsets, outputs, firsts);
-            if no != 0 {
-                return answered(no, r);
+            Before {
+                file,
+                reader: r,
+                kept,
             }
-            let place = r.place;
-            answered(
-                0,
-                Reader {
-                    place: place.argument(),
-                    delay: r.delay,
-                    number: r.number,
-                    first: r.first,
-                    input: r.input + 1,
-                    offset: r.offset,
-                },
-            )
+            .argument_refusal(a.source)?;
+            Ok(Reader {
+                place: place.argument(),
+                input: r.input + 1,
+                ..r
+            })
         }
         Record::Connection(s) => {
-            let no = connection_refusal(file, r, s, offsets, outputs, firsts);
-            if no != 0 {
-                return answered(no, r);
+            Before {
+                file,
+                reader: r,
+                kept,
             }
-            let place = r.place;
-            answered(0, moved(r, place.connection()))
+            .connection_refusal(s)?;
+            Ok(Reader {
+                place: place.connection(),
+                ..r
+            })
         }
-        Record::Wrong => answered(fault::RECORD, r),
+        Record::Wrong => Err(Fault::Record),
     }
 }
 
@@ -533,12 +404,6 @@ pub fn opened(x: Record, p: u16, c: usize) -> Reader
 {
     match x {
         Record::Component(k, d) => begin(k, d, p, c),
-        Record::Input(_) => begin(Class::Leaf, 0, p, c),
-        Record::Output(_) => begin(Class::Leaf, 0, p, c),
-        Record::Instance(_) => begin(Class::Leaf, 0, p, c),
-        Record::Invocation(_, _) => begin(Class::Leaf, 0, p, c),
-        Record::Argument(_) => begin(Class::Leaf, 0, p, c),
-        Record::Connection(_) => begin(Class::Leaf, 0, p, c),
-        Record::Wrong => begin(Class::Leaf, 0, p, c),
+        _ => begin(Class::Leaf, 0, p, c),
     }
 }

@@ -1,8 +1,7 @@
 -- The main page: one pass over the records with a small state gives the verdict.
 -- Assumes nothing.
 use Rattle.std.specs.Prelude.{ℕ, ◌≡◌, List, []}
-use Rattle.answers.specs.declared.Refusal.{Refusal}
-use Rattle.answers.specs.Answer.{accepted, Counts}
+use Rattle.answers.specs.Answer.{accepted, Counts, Refusal}
 use Rattle.timeline.specs.Design.{Port}
 use Rattle.entry.specs.Records.{Record}
 use Rattle.entry.specs.Entered.{Entered, nothing, design}

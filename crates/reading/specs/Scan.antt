@@ -2,8 +2,7 @@
 -- It gives the verdict if the tests mean what the rules ask and the state goes on to fit what has been entered.
 -- Assumes nothing.
 use Rattle.std.specs.Prelude.{ℕ, suc, Bool, cond, ◌≡◌, List, [], ◌∷◌, ◌++◌, length}
-use Rattle.answers.specs.declared.Refusal.{Refusal}
-use Rattle.answers.specs.Answer.{Answer, accepted, refused, Counts}
+use Rattle.answers.specs.Answer.{Answer, accepted, refused, Counts, Refusal}
 use Rattle.entry.specs.Lists.{add_last}
 use Rattle.entry.specs.Records.{Record, wrong}
 use Rattle.entry.specs.Entered.{Entered, enter, said}

@@ -1,8 +1,7 @@
 -- What a refusal tells, by what a reader keeps: found after the fact, where a test has failed. (entry/specs/Told.antt)
 -- Assumes nothing.
 use Rattle.std.specs.Prelude.{ℕ}
-use Rattle.answers.specs.declared.Refusal.{Refusal}
-use Rattle.answers.specs.Answer.{refusal}
+use Rattle.answers.specs.Answer.{refusal, Refusal}
 use Rattle.entry.specs.Records.{Record}
 use Rattle.reading.specs.Reader.{View}
 

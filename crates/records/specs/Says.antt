@@ -1,12 +1,12 @@
 -- What the declared records say, in the words of the theory.
 -- Assumes nothing.
+use Rattle.std.specs.Prelude.{Option, Some, None}
 use Rattle.timeline.specs.Design as Design
 use Rattle.entry.specs.Records as Records
 use Rattle.records.specs.declared.Class.{Class}
 use Rattle.records.specs.declared.Class.TheVariants.{Leaf, Built}
 use Rattle.records.specs.declared.Port.{Port}
 use Rattle.records.specs.declared.Source.{Source}
-use Rattle.records.specs.declared.Sourced.{Sourced}
 use Rattle.records.specs.declared.Record.{Record}
 use Rattle.records.specs.Decoded.{Named, from, nothing}
 
@@ -22,9 +22,9 @@ source (Source.Own i) = Design.own i
 source (Source.Output j o) = Design.output_of j o
 source (Source.Constant v) = Design.constant v
 
-abbrev pub says_source : Sourced → Named
-says_source (Sourced.From s) = from (source s)
-says_source Sourced.Wrong = nothing
+abbrev pub says_source : Option Source → Named
+says_source (Some s) = from (source s)
+says_source None = nothing
 
 abbrev pub says : Record → Records.Record
 says (Record.Component k d) = Records.component (class k) d

@@ -1,7 +1,15 @@
-// How the programs say their answers: the words of document 01 and the user's numbers.
+// How the programs take the file and say their answers: the words of document 01 and the user's numbers.
 #![tactic(auto)]
 
-use answers::{Refusal, Verdict};
+ghost use Rattle.std.specs.Prelude.{List, ℕ, ◌≤◌, length, []};
+ghost use Rattle.std.specs.Fn.{FnOnceReturnsAt, FnOnceReturnsAtMut};
+ghost use Rattle.pieces.specs.declared.Output.{Output};
+ghost use Rattle.pieces.specs.Gathered.{Holds};
+
+use answers::{Counts, Refusal};
+use pieces::Output;
+use std::fmt;
+use std::fmt::Write;
 
 // The numbers under which a program finds its input and its outputs open.
 pub const STDIN: i32 = 0;
@@ -10,28 +18,39 @@ pub const STDOUT: i32 = 1;
 
 pub const STDERR: i32 = 2;
 
+// The file on standard input is handed on.
+pub fn on_input<R, F: FnOnce(&[u8]) -> R>(f: F) -> R
+    requires { F.IsAlwaysCallable f }
+    ensures { (file : List ℕ) × (length file ≤ 65537) × FnOnceReturnsAt F.FnOnce f file result }
+{
+    // One byte more than any file has: whatever is longer is refused for its length.
+    let mut file = [0u8; 65537];
+    let n = io::read_full(STDIN, &mut file);
+    f(&file[..n])
+}
+
+// What is printed goes to one stream, in as few parts as it has room for.
+pub fn print<F: FnOnce(&mut Output) -> fmt::Result>(fd: i32, f: F)
+    requires { F.IsAlwaysCallable f }
+    ensures { (fresh : Output) × (last : Output) × (r : _) × Holds fd [] fresh × FnOnceReturnsAtMut F.FnOnce f fresh r last }
+{
+    let mut out = Output::to(fd);
+    // An output takes every text, so there is nothing to answer for.
+    let _ = f(&mut out);
+    out.end();
+}
+
 // "A refusal prints only `refused 11 at 12`, with its numbers."
 pub fn refusal(fd: i32, r: Refusal) {
-    io::write_all(fd, b"refused ");
-    io::print_decimal(fd, r.number as u64);
-    io::write_all(fd, b" at ");
-    io::print_decimal(fd, r.position as u64);
-    io::write_all(fd, b"\n");
+    print(fd, |out| writeln!(out, "{r}"));
 }
 
 // `accepted`, the component and record counts; or the refusal.
-pub fn verdict(fd: i32, v: Verdict) {
+pub fn verdict(fd: i32, v: Result<Counts, Refusal>) {
     match v {
-        Verdict::Accepted {
-            components,
-            records,
-        } => {
-            io::write_all(fd, b"accepted ");
-            io::print_decimal(fd, components as u64);
-            io::write_all(fd, b" ");
-            io::print_decimal(fd, records as u64);
-            io::write_all(fd, b"\n");
-        }
-        Verdict::Refused(r) => refusal(fd, r),
+        Ok(counts) => print(fd, |out| {
+            writeln!(out, "accepted {} {}", counts.components, counts.records)
+        }),
+        Err(r) => refusal(fd, r),
     }
 }

@@ -1,27 +1,23 @@
 -- Rows that are written one behind the other.
 -- Assumes nothing.
-use Prim.Native.Nat.{ℕ, zero, suc, ◌+◌, ◌-◌, ◌*◌, ◌≤◌, ◌<◌, max}
+use Prim.Native.Nat.{ℕ, zero, suc, ◌+◌, ◌-◌, ◌*◌, ◌/◌, ◌%◌, ◌≤◌, ◌<◌, max}
 use mathlib.Core.Path.{◌≡◌, refl, sym, ap, ◌∙◌}
 use mathlib.Core.List.{List, [], ◌∷◌, ◌++◌, append-nil}
 use native.Mathlib.Omega.{arith}
 use native.Mathlib.Nat.{le-max_left, le-max_right, max-le}
 use native.Mathlib.Decide.{ℕ_discrete}
 use native.Mathlib.Numerals.{add-one}
-use lib.ListN.{length, take, drop, length-take, length-drop, drop_of_length-le}
-use lib.Seq.{drop_at}
+use lib.ListN.{length, get_or, take, drop, length-take, length-drop, drop_of_length-le}
+use lib.Seq.{take-suc, take_all}
+use Rattle.numbers.specs.Numbers.{bytes}
 use Rattle.packing.proofs.Writes.{next_part, as_long}
 use Rattle.look.specs.Look.{look}
 use Rattle.timetable.specs.Lists.{list_below}
-use Rattle.timetable.specs.Rows.{Row, go}
-use Rattle.timetable.specs.Bytes.{row_bytes, rows_bytes}
+use Rattle.timetable.specs.Rows.{Row}
+use Rattle.timetable.specs.Bytes.{number_bytes, row_bytes, rows_bytes}
 use Rattle.timetable.proofs.Laws.{length_bytes, bytes_append}
 use Rattle.timetable.proofs.Lists.{length_list}
-use Rattle.rows.specs.declared.Use.{Use}
-use Rattle.rows.specs.Rows.{latest, guard_row, output_row}
-
--- A part of n bytes from place a on.
-pub part_long : (a n : ℕ) (l : List ℕ) → a + n ≤ length l → length (take (a + n - a) (drop a l)) ≡ n
-part_long a n l h = simp (length-take, length-drop) (omega arith)
+use Rattle.rows.specs.Rows.{latest}
 
 pub bytes_one : (r : Row) → rows_bytes (r ∷ []) ≡ row_bytes r
 unfolding rows_bytes
@@ -43,13 +39,6 @@ row_more l r d out ys a hl h y = rows_more l (r ∷ []) d out ys a (a + 16) hl r
 -- Nothing behind the last row.
 pub rows_end : (l : List Row) (d out : List ℕ) (a : ℕ) → length d ≤ a → out ≡ rows_bytes l ++ drop a d → out ≡ rows_bytes l
 rows_end l d out a h e = e ∙ rw (drop_of_length-le d {i = a} h) (append-nil (rows_bytes l))
-
-pub rows_long : (l : List Row) (d out : List ℕ) (a : ℕ) → 16 * length l ≡ a → a ≤ length d → out ≡ rows_bytes l ++ drop a d → length out ≡ length d
-rows_long l d out a h q e = as_long (rows_bytes l) out d a (length_bytes l ∙ h) q e
-
--- What stands behind the rows may be said of the list itself.
-pub rows_kept : (l : List Row) (d out : List ℕ) (a : ℕ) → 16 * length l ≡ a → out ≡ rows_bytes l ++ drop a d → out ≡ rows_bytes l ++ drop a out
-rows_kept l d out a h e = e ∙ ap (λ (x : List ℕ). rows_bytes l ++ x) (sym (ap (drop a) e ∙ drop_at (rows_bytes l) (drop a d) a (length_bytes l ∙ h)))
 
 pub latest_more : (file : List ℕ) (i p m e : ℕ) → m ≡ latest file i p → e ≡ (look file (i + p)).end → max m e ≡ latest file i (p + 1)
 unfolding latest
@@ -74,30 +63,36 @@ module _ (file : List ℕ) (i : ℕ) where
   latest_least zero x h = omega arith
   latest_least (suc n) x h = max-le (latest_least n x (λ p l. h p (omega arith))) (h n (omega arith))
 
--- The rows of an invocation up to its input n.
-module _ (file : List ℕ) (u : Use) where
-  abbrev pub begun : ℕ → List Row
-  begun n = go u.number u.instance u.offset ∷ list_below n (guard_row file u)
+-- One number more of a row, in two bytes.
+number_one : (x : ℕ) → x < 65536 → bytes 2 x ≡ number_bytes (x ∷ [])
+unfolding number_bytes
+number_one x h = let e : x / 256 % 256 ≡ x / 256 = omega arith in rw e
 
-  pub length_begun : (n : ℕ) → 16 * length (begun n) ≡ 16 + 16 * n
-  length_begun n = let k = length_list n (guard_row file u) in omega arith
+numbers_join : (xs ys : List ℕ) → number_bytes (xs ++ ys) ≡ number_bytes xs ++ number_bytes ys
+unfolding number_bytes
+numbers_join [] ys = refl
+numbers_join (x ∷ xs) ys = rw (numbers_join xs ys)
 
-  pub guard_more : (n a : ℕ) (d out ys : List ℕ) → a ≡ 16 + 16 * n → out ≡ rows_bytes (begun n) ++ drop a d → ys ≡ row_bytes (guard_row file u n)
-      → take a out ++ (ys ++ drop (a + 16 - a) (drop a out)) ≡ rows_bytes (begun (n + 1)) ++ drop (16 + 16 * (n + 1)) d
-  guard_more n a d out ys ea h y =
-      let w : 16 + 16 * (n + 1) ≡ a + 16 = omega arith in
-      rw (w, add-one n) (row_more (begun n) (guard_row file u n) d out ys a (length_begun n ∙ sym ea) h y)
+numbers_long : (xs : List ℕ) → length (number_bytes xs) ≡ 2 * length xs
+unfolding number_bytes
+numbers_long [] = refl
+numbers_long (x ∷ xs) = let h = numbers_long xs in omega arith
 
--- The rows of the outputs up to output n.
-module _ (r : ℕ) where
-  abbrev pub connected : ℕ → List Row
-  connected n = list_below n (λ o. output_row o (r + o))
+pub numbers_more : (xs d out ys : List ℕ) (i x : ℕ) → i < length xs → x ≡ get_or xs i 0 → x < 65536 → out ≡ number_bytes (take i xs) ++ drop (2 * i) d → ys ≡ bytes 2 x
+    → take (2 * i) out ++ (ys ++ drop (2 * i + 2 - 2 * i) (drop (2 * i) out)) ≡ number_bytes (take (i + 1) xs) ++ drop (2 * (i + 1)) d
+numbers_more xs d out ys i x t ex small h y =
+    let w : 2 * (i + 1) ≡ 2 * i + 2 = omega arith in
+    let l : length (number_bytes (take i xs)) ≡ 2 * i = numbers_long (take i xs) ∙ simp length-take (omega arith) in
+    let n : length ys ≡ 2 = ap length y in
+    rw (w, add-one i, take-suc xs i 0 t, numbers_join, ← ex, ← number_one x small, ← y) (next_part (number_bytes (take i xs)) ys d out (2 * i) (2 * i + 2) h l (omega arith))
 
-  pub length_connected : (n : ℕ) → 16 * length (connected n) ≡ 16 * n
-  length_connected n = let k = length_list n (λ o. output_row o (r + o)) in omega arith
+pub numbers_all : (xs d out : List ℕ) → length d ≡ 2 * length xs → out ≡ number_bytes (take (length xs) xs) ++ drop (2 * length xs) d → out ≡ number_bytes xs
+numbers_all xs d out e h = h ∙ rw (take_all (length xs) xs (omega arith), drop_of_length-le d {i = 2 * length xs} (omega arith)) (append-nil (number_bytes xs))
 
-  pub output_more : (n a : ℕ) (d out ys : List ℕ) → a ≡ 16 * n → out ≡ rows_bytes (connected n) ++ drop a d → ys ≡ row_bytes (output_row n (r + n))
-      → take a out ++ (ys ++ drop (a + 16 - a) (drop a out)) ≡ rows_bytes (connected (n + 1)) ++ drop (16 * (n + 1)) d
-  output_more n a d out ys ea h y =
-      let w : 16 * (n + 1) ≡ a + 16 = omega arith in
-      rw (w, add-one n) (row_more (connected n) (output_row n (r + n)) d out ys a (length_connected n ∙ sym ea) h y)
+-- The next row of those that f makes.
+pub listed_more : (f : ℕ → Row) (n a : ℕ) (d out ys : List ℕ) → a ≡ 16 * n → out ≡ rows_bytes (list_below n f) ++ drop a d → ys ≡ row_bytes (f n)
+    → take a out ++ (ys ++ drop (a + 16 - a) (drop a out)) ≡ rows_bytes (list_below (n + 1) f) ++ drop (16 * (n + 1)) d
+listed_more f n a d out ys ea h y =
+    let k = length_list n f in
+    let w : 16 * (n + 1) ≡ a + 16 = omega arith in
+    rw (w, add-one n) (row_more (list_below n f) (f n) d out ys a (omega arith) h y)

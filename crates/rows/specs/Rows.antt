@@ -1,16 +1,24 @@
 -- The rows of one invocation, as the file's ports give them, and the latest end of ports. (01, Lowering)
 -- Assumes nothing.
-use Rattle.std.specs.Prelude.{ℕ, zero, suc, ◌+◌, ◌-◌, ◌≤◌, ◌<◌, max, List, [], ◌∷◌}
+use Rattle.std.specs.Prelude.{ℕ, zero, suc, ◌+◌, ◌-◌, ◌≤◌, ◌<◌, ◌≡◌, max, List, ◌∷◌}
 use Rattle.timeline.specs.Rules.{PortRange}
 use Rattle.look.specs.Look.{look}
 use Rattle.timetable.specs.Lists.{list_below}
-use Rattle.timetable.specs.Rows.{Row, go, guard, out}
+use Rattle.timetable.specs.Rows.{Row, register, go, guard, out}
 use Rattle.rows.specs.declared.Row as Declared
+use Rattle.rows.specs.declared.Row.TheVariants.{Register, Go, Guard, Out}
 use Rattle.rows.specs.declared.Use.{Use}
 
--- "Eight 16-bit numbers, zero filled."
-abbrev pub eight : Declared.Row → List ℕ
-eight r = r.kind ∷ r.second ∷ r.third ∷ r.fourth ∷ r.fifth ∷ r.sixth ∷ 0 ∷ 0 ∷ []
+-- The row that is written.
+abbrev pub says : Declared.Row → Row
+says (Register d n) = register d n
+says (Go j n k) = go j n k
+says (Guard j i f l r) = guard j i f l r
+says (Out o r) = out o r
+
+-- What is made of each number below n is row f of that number.
+abbrev pub Makes : (made : ℕ → Declared.Row → Type 0) → (n : ℕ) → (f : ℕ → Row) → Type 0
+Makes made n f = (i : ℕ) → (r : Declared.Row) → i < n → made i r → says r ≡ f i
 
 -- The latest end of n ports from record i on, and 0 of none.
 unfoldable pub latest : List ℕ → (i n : ℕ) → ℕ

@@ -1,12 +1,9 @@
 -- Nothing is left of a number after w bits exactly when it is below 2 to the w.
 -- Assumes nothing.
-use Prim.Native.Nat.{ℕ, ◌+◌, ◌*◌, ◌/◌, ◌^◌, ◌≤◌, ◌<◌}
-use mathlib.Core.Path.{◌≡◌, refl, sym, ◌∙◌}
-use mathlib.Core.Bool.{Bool, true, false}
-use lib.Dec.{eqb, ltb}
-use native.Mathlib.Omega.{arith}
+use Rattle.std.specs.Prelude.{ℕ, ◌+◌, ◌*◌, ◌/◌, ◌^◌, ◌≤◌, ◌<◌, ◌≡◌, refl, Bool, true, false, eqb, ltb, leb}
+use Rattle.std.proofs.Common.{arith, ◌∙◌, sym}
+use Rattle.std.proofs.lemmas.Bool.{lt-ltb, ltb-true, ltb-false, eq-eqb, ne_eqb, le-leb}
 use lib.Pow.{high, shl-shr, shr_mono, pow_mono}
-use borrow.Author.Tests.{lt-ltb, ltb-true, ltb-false, eq-eqb, ne_eqb}
 
 pub none_left : (v w : ℕ) → eqb (v / 2 ^ w) 0 ≡ ltb v (2 ^ w)
 none_left v w = go (ltb v (2 ^ w)) refl
@@ -21,5 +18,5 @@ none_left v w = go (ltb v (2 ^ w)) refl
         let l : 1 ≤ v / 2 ^ w = rw (shl-shr 1 w) at (shr_mono w m) in
         ne_eqb (v / 2 ^ w) 0 (λ z. absurd (omega arith)) ∙ sym e
 
-pub all_below : (v w : ℕ) → v < 2 ^ 64 → 64 ≤ w → true ≡ ltb v (2 ^ w)
-all_below v w l m = sym (lt-ltb v (2 ^ w) (let p = pow_mono m in omega arith))
+pub all_below : (v w : ℕ) → v < 2 ^ 64 → 64 ≤ w → leb 64 w ≡ ltb v (2 ^ w)
+all_below v w l m = le-leb 64 w m ∙ sym (lt-ltb v (2 ^ w) (let p = pow_mono m in omega arith))

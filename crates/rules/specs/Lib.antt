@@ -1,3 +1,4 @@
 pub mod Failed
 pub mod Calls
 pub mod Known
+pub mod Each

@@ -1,230 +1,142 @@
-// The rules of one record on values, refusals 7 to 12: the number of the first that it breaks, 0 for none.
+// The rules of one record on values, refusals 7 to 12: the first that it breaks.
 #![tactic(auto)]
 
-ghost use Rattle.std.specs.Prelude.{◌≡◌, true, cond, ◌+◌, ◌-◌, ◌^◌, ◌≤◌, ◌<◌, min, leb, ltb};
+ghost use Rattle.std.specs.Prelude.{◌≡◌, ℕ, Bool, true, ◌+◌, ◌^◌, ◌≤◌, ◌<◌, leb, ltb};
+ghost use Rattle.answers.specs.Answer.{broken};
 ghost use Rattle.reading.specs.Tests.{every_below};
 ghost use Rattle.reading.specs.Reader.{fed_tests, constant_tests, stands_apart, within_span, invocation_tests};
 ghost use Rattle.records.specs.Says.{port};
 ghost use Rattle.rules.specs.Failed.{first_failed};
 ghost use Rattle.rules.specs.Calls.{no_look, calls};
 ghost use Rattle.rules.specs.Known.{Known};
+ghost use Rattle.rules.specs.Each.{of_instance, Computes};
 
-use answers::fault;
+use answers::Fault;
 use records::Port;
-
-fn size(x: u16) -> usize
-    ensures { (result ≡ x) × (result < 65536) }
-{
-    x as usize
-}
-
-fn wide(x: u16) -> u32
-    ensures { (result ≡ x) × (result < 65536) }
-{
-    x as u32
-}
-
-// What is found later where a test passes, otherwise the number of its refusal.
-pub fn first(passes: bool, number: u8, later: u8) -> u8
-    ensures { result ≡ cond passes later number }
-{
-    if passes { later } else { number }
-}
 
 // 9: "Every port, input or output, leaf or built, has e−s ≤ its own component's D."
 pub fn interval_kept(p: Port, delay: u16) -> bool
     ensures { result ≡ leb p.end (p.start + delay) }
 {
-    wide(p.end) <= wide(p.start) + wide(delay)
+    u32::from(p.end) <= u32::from(p.start) + u32::from(delay)
 }
 
-// How many numbers there are from b up to a.
-fn above(a: u16, b: u16) -> u16
-    requires { a < 65535 }
-    ensures { result ≡ (a + 1) - b }
-{
-    if a < b { 0 } else { a - b + 1 }
+// An invocation of an instance, at an offset, whose component has this delay; and what is known of the `count` invocations before it: the
+// instance and the offset of each, and what the offsets of those of the same instance lie between.
+#[derive(Clone, Copy)]
+pub struct Invocation<'a> {
+    pub instance: u16,
+    pub offset: u16,
+    pub delay: u16,
+    // Two arrays of numbers and not one of structs, since only so does the compiler ask several places at once
+    // (docs/DECISIONS.md, "Bounds before pairs").
+    pub instances: &'a [u16; 64],
+    pub offsets: &'a [u16; 64],
+    pub count: usize,
+    pub least: u16,
+    pub greatest: u16,
+    pub ghost room: { count ≤ 64 },
+    pub ghost early: { offset < 65535 },
+    pub ghost known: { Known instances.now offsets.now count instance least greatest },
 }
 
-// The sum, or the greatest number of its size.
-fn sum(a: u16, b: u16) -> u16
-    ensures { result ≡ min (a + b) 65535 }
-{
-    let s = wide(a) + wide(b);
-    if s < 65535 { s as u16 } else { 65535 }
-}
+impl Invocation<'_> {
+    // Whether a test passes the offset of every invocation before that is of the same instance. All places are asked, without a branch and
+    // with nothing wider than the test has it, so that the compiler asks several at once.
+    fn each<F: Fn(u16) -> bool>(self, test: F) -> bool
+        requires { F.IsAlwaysCallable test }
+        ensures { (t : ℕ → Bool) → Computes (F.post test) t → result ≡ every_below (of_instance self.entry.instances.now self.entry.offsets.now self.entry.instance t) 64 }
+    {
+        let instances = self.instances;
+        let offsets = self.offsets;
+        let mut kept = true;
+        for j in 0..64 {
+            kept &= (instances[j] != self.instance) | test(offsets[j]);
+        }
+        kept
+    }
 
-// 10, pair by pair: one more invocation of instance n at offset k, which takes d. All places are asked and nothing is wider than
-// an offset, so that the compiler asks several at once.
-fn each_apart(
-    instance: &[u16; 64],
-    offset: &[u16; 64],
-    count: usize,
-    n: u16,
-    k: u16,
-    d: u16,
-    least: u16,
-    greatest: u16,
-) -> bool
-    requires { (count ≤ 64) × (k < 65535) × Known instance.now offset.now count n least greatest }
-    ensures { result ≡ every_below (stands_apart no_look (calls 0 count 0 instance.now offset.now) n k d) count }
-{
-    let near = above(k, d);
-    let far = sum(k, d);
-    let mut kept = true;
-    let mut j = 0;
-    while j < 64 {
-        let other = instance[j] != n;
-        let o = offset[j];
-        kept = kept & (other | ((o < near) | (far <= o)));
-        j += 1;
+    // 10. Before the least offset or after the greatest no pair needs a test.
+    fn apart(self) -> bool
+        ensures { result ≡ every_below (stands_apart no_look (calls 0 self.entry.count 0 self.entry.instances.now self.entry.offsets.now) self.entry.instance self.entry.offset self.entry.delay) self.entry.count }
+    {
+        let k = u32::from(self.offset);
+        let d = u32::from(self.delay);
+        if k + d <= u32::from(self.least) {
+            return true;
+        }
+        if u32::from(self.greatest) + d <= k {
+            return true;
+        }
+        let near = (self.offset + 1).saturating_sub(self.delay);
+        let far = self.offset.saturating_add(self.delay);
+        self.each(|o| (o < near) | (far <= o))
     }
-    kept
-}
 
-// 11, pair by pair.
-fn each_within(
-    instance: &[u16; 64],
-    offset: &[u16; 64],
-    count: usize,
-    n: u16,
-    k: u16,
-    d: u16,
-    delay: u16,
-) -> bool
-    requires { count ≤ 64 }
-    ensures { result ≡ every_below (within_span no_look (calls 0 count delay instance.now offset.now) n k d) count }
-{
-    let mut kept = true;
-    let mut j = 0;
-    while j < count {
-        let other = instance[j] != n;
-        let o = wide(offset[j]);
-        kept = kept
-            & (other
-                | ((wide(k) + wide(d) <= o + wide(delay))
-                    & (o + wide(d) <= wide(k) + wide(delay))));
-        j += 1;
+    // 11. Where the least and the greatest offset keep it, all do.
+    fn within(self, delay: u16) -> bool
+        ensures { result ≡ every_below (within_span no_look (calls 0 self.entry.count delay self.entry.instances.now self.entry.offsets.now) self.entry.instance self.entry.offset self.entry.delay) self.entry.count }
+    {
+        let end = u32::from(self.offset) + u32::from(self.delay);
+        let last = u32::from(self.offset) + u32::from(delay);
+        let early = end <= u32::from(self.least) + u32::from(delay);
+        let late = u32::from(self.greatest) + u32::from(self.delay) <= last;
+        if early & late {
+            return true;
+        }
+        self.each(|o| (end <= u32::from(o) + u32::from(delay))
+            & (u32::from(o) + u32::from(self.delay) <= last))
     }
-    kept
-}
 
-// 10. Before the least offset or after the greatest no pair needs a test.
-fn keeps_apart(
-    instance: &[u16; 64],
-    offset: &[u16; 64],
-    count: usize,
-    n: u16,
-    k: u16,
-    d: u16,
-    least: u16,
-    greatest: u16,
-) -> bool
-    requires { (count ≤ 64) × (k < 65535) × Known instance.now offset.now count n least greatest }
-    ensures { result ≡ every_below (stands_apart no_look (calls 0 count 0 instance.now offset.now) n k d) count }
-{
-    if wide(k) + wide(d) <= wide(least) {
-        return true;
+    // 7, 10 and 11 in a component with so many instances and this delay.
+    pub fn refusal(self, instances: usize, delay: u16) -> Result<(), Fault>
+        ensures { broken result ≡ first_failed (invocation_tests no_look (calls instances self.entry.count delay self.entry.instances.now self.entry.offsets.now) self.entry.instance self.entry.offset self.entry.delay) }
+    {
+        if instances <= usize::from(self.instance) {
+            return Err(Fault::Reference);
+        }
+        if !self.apart() {
+            return Err(Fault::Spacing);
+        }
+        if delay < self.delay || !self.within(delay) {
+            return Err(Fault::Span);
+        }
+        Ok(())
     }
-    if wide(greatest) + wide(d) <= wide(k) {
-        return true;
-    }
-    each_apart(instance, offset, count, n, k, d, least, greatest)
-}
-
-// 11. Where the least and the greatest offset keep it, all do.
-fn keeps_within(
-    instance: &[u16; 64],
-    offset: &[u16; 64],
-    count: usize,
-    n: u16,
-    k: u16,
-    d: u16,
-    delay: u16,
-    least: u16,
-    greatest: u16,
-) -> bool
-    requires { (count ≤ 64) × Known instance.now offset.now count n least greatest }
-    ensures { result ≡ every_below (within_span no_look (calls 0 count delay instance.now offset.now) n k d) count }
-{
-    let early = wide(k) + wide(d) <= wide(least) + wide(delay);
-    let late = wide(greatest) + wide(d) <= wide(k) + wide(delay);
-    if early & late {
-        return true;
-    }
-    each_within(instance, offset, count, n, k, d, delay)
-}
-
-// 7, 10 and 11 of an invocation of instance n, of so many instances, after `count` invocations; those of this instance have offsets
-// from `least` to `greatest`.
-pub fn invocation_refusal(
-    instances: usize,
-    delay: u16,
-    instance: &[u16; 64],
-    offset: &[u16; 64],
-    count: usize,
-    n: u16,
-    k: u16,
-    d: u16,
-    least: u16,
-    greatest: u16,
-) -> u8
-    requires { (count ≤ 64) × (k < 65535) × Known instance.now offset.now count n least greatest }
-    ensures { result ≡ first_failed (invocation_tests no_look (calls instances count delay instance.now offset.now) n k d) }
-{
-    if instances <= size(n) {
-        return fault::REFERENCE;
-    }
-    if !keeps_apart(instance, offset, count, n, k, d, least, greatest) {
-        return fault::SPACING;
-    }
-    if delay < d {
-        return fault::SPAN;
-    }
-    if !keeps_within(instance, offset, count, n, k, d, delay, least, greatest) {
-        return fault::SPAN;
-    }
-    0
 }
 
 // 8 and 12 of port p, its event at cycle a, that is read at port q, its event at cycle k.
 // 12: "The source's interval contains the required one."
-pub fn fed_refusal(p: Port, a: u16, q: Port, k: u16) -> u8
-    ensures { result ≡ first_failed (fed_tests true (port p) a (port q) k) }
+pub fn fed_refusal(p: Port, a: u16, q: Port, k: u16) -> Result<(), Fault>
+    ensures { broken result ≡ first_failed (fed_tests true (port p) a (port q) k) }
 {
+    let (a, k) = (u32::from(a), u32::from(k));
     if p.width != q.width {
-        return fault::WIDTH;
+        return Err(Fault::Width);
     }
-    if wide(k) + wide(q.start) < wide(a) + wide(p.start) {
-        return fault::READING;
+    if k + u32::from(q.start) < a + u32::from(p.start) {
+        return Err(Fault::Reading);
     }
-    if wide(a) + wide(p.end) < wide(k) + wide(q.end) {
-        return fault::READING;
+    if a + u32::from(p.end) < k + u32::from(q.end) {
+        return Err(Fault::Reading);
     }
-    0
+    Ok(())
 }
 
 // "A constant is below 2 to the width (any 64-bit value at width 64)."
+#[tactic(auto, using(crate::proofs::Shift::none_left, crate::proofs::Shift::all_below))]
 fn below(v: u64, w: u8) -> bool
     ensures { result ≡ ltb v (2 ^ w) }
 {
-    if 64 <= w {
-        return true;
-    }
-    (v >> w) == 0
+    64 <= w || v >> w == 0
 }
 
-// 7, 8 and 12 of a constant that is read at port q.
-pub fn constant_refusal(v: u64, q: Port) -> u8
-    ensures { result ≡ first_failed (constant_tests v (port q)) }
+// 7, 8 and 12 of a constant that is read at port q: it names nothing, and is there at every cycle.
+pub fn constant_refusal(v: u64, q: Port) -> Result<(), Fault>
+    ensures { broken result ≡ first_failed (constant_tests v (port q)) }
 {
-    first(
-        true,
-        fault::REFERENCE,
-        first(
-            below(v, q.width),
-            fault::WIDTH,
-            first(true, fault::READING, 0),
-        ),
-    )
+    if !below(v, q.width) {
+        return Err(Fault::Width);
+    }
+    Ok(())
 }

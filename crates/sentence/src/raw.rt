@@ -1,22 +1,12 @@
 // Sixteen bytes that are written as they are.
 use text::{Cursor, Expected};
 
-#[derive(Clone, Copy)]
-pub struct RawRead {
-    pub bytes: [u8; 16],
-    pub next: Cursor,
-}
-
 // `raw` and sixteen bytes, two hexadecimal digits each.
-pub fn raw_bytes(line: &[u8], before: Cursor) -> RawRead {
-    let mut c = before.literal(line, b"raw", Expected::Kind);
+pub(crate) fn raw_bytes(c: Cursor) -> Result<([u8; 16], Cursor), Expected> {
+    let mut c = c.literal(b"raw", Expected::Kind)?;
     let mut bytes = [0u8; 16];
-    let mut i = 0;
-    while i < 16 {
-        let b = c.byte(line);
-        bytes[i] = (b.value % 256) as u8;
-        c = b.next;
-        i += 1;
+    for b in bytes.iter_mut() {
+        (*b, c) = c.byte()?;
     }
-    RawRead { bytes, next: c }
+    Ok((bytes, c))
 }

@@ -3,74 +3,68 @@
 // refusal 14 where it is absent.
 #![tactic(auto)]
 
-use answers::{Refusal, Written, fault};
-use report::{STDERR, STDIN, STDOUT};
+use answers::{Fault, Refusal};
+use report::{STDERR, STDOUT};
 use std::env::Env;
-use words::{Word, arguments};
+use std::fmt;
+use std::fmt::Write;
+use words::arguments;
 
-#[derive(Drop)]
+#[derive(Clone, Copy)]
 enum Asked {
     Text,
-    // SVG of the last component, or of this one
-    Last,
-    Component(u64),
-    Nonsense,
+    // of this component, or of the last
+    Svg(Option<u64>),
 }
+
+// Arguments that ask for neither.
+#[derive(Clone, Copy)]
+struct Misuse;
 
 // Whether argument 1 asks for SVG.
 fn svg_asked(rt: &impl Env) -> bool {
     let mut space = io::buffer();
-    let n = arguments::argument(rt, 1, &mut space);
-    let word = &space[..n];
-    check::same(word, b"--svg") | check::same(word, b"svg")
+    let word = arguments::argument(rt, 1, &mut space);
+    (word == b"--svg".as_slice()) | (word == b"svg".as_slice())
 }
 
-// The component that argument 2 names.
-fn component_asked(rt: &impl Env) -> Asked {
-    let mut space = io::buffer();
-    let n = arguments::argument(rt, 2, &mut space);
-    match words::number(&space[..n]) {
-        Word::Number(c) => Asked::Component(c),
-        Word::Other => Asked::Nonsense,
-    }
-}
-
-fn what_is_asked(rt: &impl Env) -> Asked {
+fn what_is_asked(rt: &impl Env) -> Result<Asked, Misuse> {
     if !arguments::given(rt, 1) {
-        return Asked::Text;
+        return Ok(Asked::Text);
     }
-    if arguments::given(rt, 3) {
-        return Asked::Nonsense;
-    }
-    if !svg_asked(rt) {
-        return Asked::Nonsense;
+    if arguments::given(rt, 3) | !svg_asked(rt) {
+        return Err(Misuse);
     }
     if !arguments::given(rt, 2) {
-        return Asked::Last;
+        return Ok(Asked::Svg(None));
     }
-    component_asked(rt)
+    let mut space = io::buffer();
+    let c = words::number(arguments::argument(rt, 2, &mut space)).ok_or(Misuse)?;
+    Ok(Asked::Svg(Some(c)))
 }
 
-fn svg(list: &[u8], c: usize) {
-    if !picture::svg(STDOUT, list, c) {
-        report::refusal(STDOUT, Refusal::at(fault::ABSENT, c));
-    }
+fn text<W: fmt::Write>(out: &mut W, list: &[u8]) -> fmt::Result {
+    shown::list(out, list)?;
+    picture::components(out, list)
 }
 
-// The first n bytes of a list, as they are asked for.
-fn answer(list: &[u8], n: usize, a: Asked) {
-    if list.len() < n {
-        return;
+fn svg<W: fmt::Write>(out: &mut W, list: &[u8], c: usize) -> fmt::Result {
+    if picture::svg(out, list, c)? {
+        return Ok(());
     }
-    let list = &list[0..n];
-    match a {
-        Asked::Text => {
-            shown::list(STDOUT, list);
-            picture::components(STDOUT, list);
+    let absent = Refusal::at(Fault::Absent, c);
+    writeln!(out, "{absent}")
+}
+
+// The list as it is asked for.
+fn answer(list: &[u8], asked: Result<Asked, Misuse>) {
+    match asked {
+        Ok(Asked::Text) => report::print(STDOUT, |out| text(out, list)),
+        Ok(Asked::Svg(c)) => {
+            let c = c.map_or(parts::last(list), |c| c as usize);
+            report::print(STDOUT, |out| svg(out, list, c));
         }
-        Asked::Last => svg(list, parts::last(list)),
-        Asked::Component(c) => svg(list, c as usize),
-        Asked::Nonsense => {
+        Err(Misuse) => {
             io::write_all(
                 STDERR,
                 b"usage: show [--svg [COMPONENT]], a design file on standard input\n",
@@ -79,14 +73,16 @@ fn answer(list: &[u8], n: usize, a: Asked) {
     }
 }
 
-fn main(rt: HostRuntime) {
-    let a = what_is_asked(&rt);
-    // One byte more than any file has: whatever is longer is refused for its length.
-    let mut file = [0u8; 65537];
-    let n = io::read_full(STDIN, &mut file);
+// A file whose blocks do not pass is refused before a word about the arguments.
+fn show(file: &[u8], asked: Result<Asked, Misuse>) {
     let mut list = io::large_buffer();
-    match packing::unpack(&file[..n], &mut list) {
-        Written::Done(k) => answer(&list, k, a),
-        Written::Refused(r) => report::refusal(STDOUT, r),
+    match packing::unpack(file, &mut list) {
+        Ok(n) => answer(&list[..n], asked),
+        Err(r) => report::refusal(STDOUT, r),
     }
+}
+
+fn main(rt: HostRuntime) {
+    let asked = what_is_asked(&rt);
+    report::on_input(|file| show(file, asked));
 }

@@ -4,9 +4,9 @@
 ghost use Rattle.std.specs.Prelude.{◌≡◌, ◌+◌, ◌<◌, length, set, get_or, replicate};
 ghost use Rattle.signatures.specs.Rows.{zero_row};
 
-// Class: 0 leaf, 1 built. Plain numbers, so that a host in another language can hold it.
+// Class: 0 leaf, 1 built; a number and no enum, since the C interface has this row in `dansevik.h`, and a host in another language holds it.
 #[repr(C)]
-#[derive(Clone, Copy)]
+#[derive(Clone, Copy, Debug, Default, PartialEq, Eq)]
 pub struct Signature {
     pub class: u16,
     pub delay: u16,
@@ -33,16 +33,5 @@ pub fn store(table: &mut [Signature], i: usize, s: Signature)
 pub fn clear(table: &mut [Signature])
     ensures { table.new ≡ replicate (length table.old) zero_row }
 {
-    let none = Signature {
-        class: 0,
-        delay: 0,
-        inputs: 0,
-        outputs: 0,
-        first: 0,
-    };
-    let mut i = 0;
-    while i < table.len() {
-        table[i] = none;
-        i += 1;
-    }
+    table.fill(Signature::default());
 }

@@ -1,190 +1,129 @@
-// A reader of one line. It goes from word to word, and stays wrong where it first was.
-ghost use Rattle.std.specs.Prelude.{◌≤◌};
+// A reader of one line. It goes from word to word, up to the first that is not what was expected there.
+ghost use Rattle.std.specs.Prelude.{ℕ, ◌≡◌, ◌≤◌, ◌↔◌, [], Some, IsTrue, IsOk, IfOk, IfErr, IfSome, IsSome, IsSomeAnd};
+ghost use Rattle.text.specs.Words.{next_end, next_word, next_number, past_number, next_byte};
+ghost use Rattle.text.specs.declared.expected.Expected.TheVariants.{Own, Byte, End};
 
+use crate::Expected;
 use crate::letters::{hex, word};
-use words::Word;
-
-// What should have stood at a place of the text.
-#[derive(Clone, Copy)]
-pub enum Expected {
-    // all is well so far
-    Nothing,
-    Kind,
-    // this number, which follows from the place
-    Own(u64),
-    Class,
-    Delay,
-    Interval,
-    Width,
-    Component,
-    Instance,
-    Offset,
-    Source,
-    Input,
-    Output,
-    Constant,
-    Byte,
-    End,
-    // what a text as a whole may hold
-    Line,
-    Some,
-    Fewer,
-    Length,
-}
 
 #[derive(Clone, Copy)]
-pub struct Cursor {
+pub struct Cursor<'a> {
+    pub line: &'a [u8],
     // where the next word is looked for
     pub at: usize,
-    pub right: bool,
-    // meant where the reader is wrong
-    pub expected: Expected,
 }
 
-// A number that was read, and the reader behind it.
-#[derive(Clone, Copy)]
-pub struct Field {
-    pub value: u64,
-    pub next: Cursor,
-}
-
-impl Cursor {
-    pub fn new() -> Cursor {
-        Cursor {
-            at: 0,
-            right: true,
-            expected: Expected::Nothing,
-        }
+impl<'a> Cursor<'a> {
+    pub fn new(line: &'a [u8]) -> Cursor<'a>
+        ensures { (result.line.now ≡ line.now) × (result.at ≡ 0) }
+    {
+        Cursor { line, at: 0 }
     }
 
-    fn to(self, at: usize) -> Cursor {
-        let expected = self.expected;
-        Cursor {
-            at,
-            right: self.right,
-            expected,
-        }
-    }
-
-    // The first thing that was expected stays.
-    pub fn wrong(self, what: Expected) -> Cursor {
-        if self.right {
-            Cursor {
-                at: self.at,
-                right: false,
-                expected: what,
-            }
-        } else {
-            self
-        }
+    // The next word, and the reader behind it.
+    fn word(self) -> (&'a [u8], Cursor<'a>)
+        ensures word { result.0.now ≡ next_word self.entry.line.now self.entry.at }
+        ensures behind { (result.1.line.now ≡ self.entry.line.now) × (result.1.at ≡ next_end self.entry.line.now self.entry.at) }
+    {
+        let line = self.line;
+        let w = word(line, self.at);
+        (&line[w.start..w.end], Cursor { line, at: w.end })
     }
 
     // Whether the next word is this one.
-    pub fn sees(self, line: &[u8], name: &[u8]) -> bool {
-        let w = word(line, self.at);
-        let start = w.start;
-        let end = w.end;
-        check::same(&line[start..end], name)
+    pub fn sees(self, name: &[u8]) -> bool
+        ensures { IsTrue result ↔ (next_word self.entry.line.now self.entry.at ≡ name.now) }
+    {
+        let (word, _) = self.word();
+        word == name
     }
 
     // Past this word.
-    pub fn literal(self, line: &[u8], name: &[u8], what: Expected) -> Cursor {
-        let w = word(line, self.at);
-        let start = w.start;
-        let end = w.end;
-        if check::same(&line[start..end], name) {
-            self.to(end)
-        } else {
-            self.wrong(what)
-        }
+    pub fn literal(self, name: &[u8], what: Expected) -> Result<Cursor<'a>, Expected>
+        ensures variant { IsOk result ↔ (next_word self.entry.line.now self.entry.at ≡ name.now) }
+        ensures ok { IfOk result (λ c. (c.line.now ≡ self.entry.line.now) × (c.at ≡ next_end self.entry.line.now self.entry.at)) }
+        ensures err { IfErr result (λ e. e ≡ what) }
+    {
+        let (word, next) = self.word();
+        if word == name { Ok(next) } else { Err(what) }
     }
 
-    // Past a number in this range.
-    pub fn number(self, line: &[u8], least: u64, most: u64, what: Expected) -> Field
-        ensures { result.value ≤ most }
+    // A number in this range, and the reader behind it.
+    pub fn number(
+        self,
+        least: u64,
+        most: u64,
+        what: Expected,
+    ) -> Result<(u64, Cursor<'a>), Expected>
+        ensures variant { IsOk result ↔ IsSomeAnd (next_number self.entry.line.now self.entry.at) (λ n. (least ≤ n) × (n ≤ most)) }
+        ensures ok { IfOk result (λ read. (next_number self.entry.line.now self.entry.at ≡ Some read.0) × (read.1.line.now ≡ self.entry.line.now) × (read.1.at ≡ next_end self.entry.line.now self.entry.at)) }
+        ensures most { IfOk result (λ read. read.0 ≤ most) }
+        ensures err { IfErr result (λ e. e ≡ what) }
     {
-        let w = word(line, self.at);
-        let start = w.start;
-        let end = w.end;
-        match words::number(&line[start..end]) {
-            Word::Number(value) => {
-                if value <= most {
-                    if least <= value {
-                        return Field {
-                            value,
-                            next: self.to(end),
-                        };
-                    }
-                }
-            }
-            Word::Other => {}
-        }
-        Field {
-            value: most,
-            next: self.wrong(what),
+        let (word, next) = self.word();
+        match words::number(word) {
+            Some(n) if least <= n && n <= most => Ok((n, next)),
+            _ => Err(what),
         }
     }
 
     // Past any number that stands here.
-    pub fn margin(self, line: &[u8]) -> Cursor {
-        let w = word(line, self.at);
-        let start = w.start;
-        let end = w.end;
-        match words::number(&line[start..end]) {
-            Word::Number(_) => self.to(end),
-            Word::Other => self,
+    pub fn margin(self) -> Cursor<'a>
+        ensures { (result.line.now ≡ self.entry.line.now) × (result.at ≡ past_number self.entry.line.now self.entry.at) }
+    {
+        let (word, next) = self.word();
+        match words::number(word) {
+            Some(_) => next,
+            None => self,
         }
     }
 
     // Past the number that follows from the place, if a number stands here.
-    pub fn own(self, line: &[u8], number: u64) -> Cursor {
-        let w = word(line, self.at);
-        let start = w.start;
-        let end = w.end;
-        match words::number(&line[start..end]) {
-            Word::Number(n) => {
-                if n == number {
-                    self.to(end)
-                } else {
-                    self.wrong(Expected::Own(number))
-                }
-            }
-            Word::Other => self,
+    pub fn own(self, number: u64) -> Result<Cursor<'a>, Expected>
+        ensures variant { IsOk result ↔ IfSome (next_number self.entry.line.now self.entry.at) (λ n. n ≡ number) }
+        ensures ok { IfOk result (λ c. (c.line.now ≡ self.entry.line.now) × (c.at ≡ past_number self.entry.line.now self.entry.at)) }
+        ensures err { IfErr result (λ e. e ≡ Own number) }
+    {
+        let (word, next) = self.word();
+        match words::number(word) {
+            Some(n) if n == number => Ok(next),
+            Some(_) => Err(Expected::Own(number)),
+            None => Ok(self),
         }
     }
 
-    // Past a byte in two hexadecimal digits.
-    pub fn byte(self, line: &[u8]) -> Field {
-        let w = word(line, self.at);
-        let start = w.start;
-        let end = w.end;
-        if end - start == 2 {
-            let high = hex(line[start]);
-            let low = hex(line[start + 1]);
-            if (high < 16) & (low < 16) {
-                return Field {
-                    value: 16 * (high as u64) + (low as u64),
-                    next: self.to(end),
-                };
+    // A byte in two hexadecimal digits, and the reader behind it.
+    pub fn byte(self) -> Result<(u8, Cursor<'a>), Expected>
+        ensures variant { IsOk result ↔ IsSome (next_byte self.entry.line.now self.entry.at) }
+        ensures ok { IfOk result (λ read. (next_byte self.entry.line.now self.entry.at ≡ Some read.0) × (read.1.line.now ≡ self.entry.line.now) × (read.1.at ≡ next_end self.entry.line.now self.entry.at)) }
+        ensures err { IfErr result (λ e. e ≡ Byte) }
+    {
+        let (word, next) = self.word();
+        if let [high, low] = word {
+            if let (Some(high), Some(low)) = (hex(*high), hex(*low)) {
+                return Ok((16 * high + low, next));
             }
         }
-        Field {
-            value: 0,
-            next: self.wrong(Expected::Byte),
-        }
+        Err(Expected::Byte)
     }
 
     // Whether the line has no word more.
-    pub fn ends(self, line: &[u8]) -> bool {
-        let w = word(line, self.at);
-        w.start == w.end
+    pub fn ends(self) -> bool
+        ensures { IsTrue result ↔ (next_word self.entry.line.now self.entry.at ≡ []) }
+    {
+        let (word, _) = self.word();
+        word.is_empty()
     }
 
-    pub fn end(self, line: &[u8]) -> Cursor {
-        if self.ends(line) {
-            self
+    // The end of the line.
+    pub fn end(self) -> Result<(), Expected>
+        ensures variant { IsOk result ↔ (next_word self.entry.line.now self.entry.at ≡ []) }
+        ensures err { IfErr result (λ e. e ≡ End) }
+    {
+        if self.ends() {
+            Ok(())
         } else {
-            self.wrong(Expected::End)
+            Err(Expected::End)
         }
     }
 }

@@ -1,47 +1,48 @@
 // The letters of a line, and its words.
-ghost use Rattle.std.specs.Prelude.{◌≡◌, ◌≤◌, ◌<◌, min, length};
-ghost use Rattle.text.specs.Letters.{kind_of, past, word_end};
+ghost use Rattle.std.specs.Prelude.{◌≡◌, ◌≤◌, ◌<◌, IfSome, min, length};
+ghost use Rattle.text.specs.Letters.{number_of, kind_of, past, word_end};
 ghost use Rattle.text.specs.Letters.{hex as digit};
 
-// A part of a line, from `start` up to `end`.
+// A part of a line, from `start` up to `end`: two places and no slice, since `word` promises these places (docs/TEXT.md).
 #[derive(Clone, Copy)]
 pub struct Span {
     pub start: usize,
     pub end: usize,
 }
 
-// 0 a blank, 1 a word by itself, 2 the start of a comment, 3 a letter of a longer word.
-fn kind(b: u8) -> u8
-    ensures { result ≡ kind_of b }
+#[derive(Clone, Copy, PartialEq, Eq)]
+enum Kind {
+    Blank,
+    // a word by itself
+    Single,
+    // the start of a comment
+    Comment,
+    // a letter of a longer word
+    Letter,
+}
+
+fn kind_of(b: u8) -> Kind
+    ensures { number_of result ≡ kind_of b }
 {
-    if (b == 32) | (b == 9) | (b == 13) {
-        return 0;
+    match b {
+        b' ' | b'\t' | b'\r' => Kind::Blank,
+        b'[' | b',' | b')' => Kind::Single,
+        b'#' => Kind::Comment,
+        _ => Kind::Letter,
     }
-    if (b == 91) | (b == 44) | (b == 41) {
-        return 1;
-    }
-    if b == 35 {
-        return 2;
-    }
-    3
 }
 
 // Past all bytes of one kind, from `at` on.
 #[tactic(auto, using(crate::proofs::Runs::run_on, crate::proofs::Runs::run_stops, crate::proofs::Runs::run_ends))]
-fn past(line: &[u8], at: usize, k: u8) -> usize
-    ensures { (result ≡ past line.now at k) × (min at (length line.now) ≤ result) × (result ≤ length line.now) }
+fn past(line: &[u8], at: usize, k: Kind) -> usize
+    ensures { (result ≡ past line.now at (number_of k)) × (min at (length line.now) ≤ result) × (result ≤ length line.now) }
 {
-    if line.len() < at {
-        return line.len();
-    }
-    let mut i = at;
-    while i < line.len() {
-        if kind(line[i]) != k {
+    for i in at..line.len() {
+        if kind_of(line[i]) != k {
             return i;
         }
-        i += 1;
     }
-    i
+    line.len()
 }
 
 // The next word, from `at` on; an empty one at the end of the line or the start of a comment.
@@ -49,38 +50,27 @@ fn past(line: &[u8], at: usize, k: u8) -> usize
 pub fn word(line: &[u8], at: usize) -> Span
     ensures { (result.start ≡ past line.now at 0) × (result.end ≡ word_end line.now result.start) × (result.start ≤ result.end) × (result.end ≤ length line.now) }
 {
-    let start = past(line, at, 0);
+    let start = past(line, at, Kind::Blank);
     if line.len() <= start {
         return Span { start, end: start };
     }
-    let k = kind(line[start]);
-    if k == 1 {
-        return Span {
-            start,
-            end: start + 1,
-        };
-    }
-    if k == 3 {
-        return Span {
-            start,
-            end: past(line, start, 3),
-        };
-    }
-    Span { start, end: start }
+    let end = match kind_of(line[start]) {
+        Kind::Single => start + 1,
+        Kind::Letter => past(line, start, Kind::Letter),
+        _ => start,
+    };
+    Span { start, end }
 }
 
-// What a hexadecimal digit says; 16 for what is none.
-pub fn hex(b: u8) -> u8
-    ensures { result ≡ digit b }
+// What a hexadecimal digit says.
+pub(crate) fn hex(b: u8) -> Option<u8>
+    ensures said { result ≡ digit b }
+    ensures small { IfSome result (λ d. d < 16) }
 {
-    if (48 <= b) & (b <= 57) {
-        return b - 48;
+    match b {
+        b'0'..=b'9' => Some(b - b'0'),
+        b'a'..=b'f' => Some(b - b'a' + 10),
+        b'A'..=b'F' => Some(b - b'A' + 10),
+        _ => None,
     }
-    if (97 <= b) & (b <= 102) {
-        return b - 87;
-    }
-    if (65 <= b) & (b <= 70) {
-        return b - 55;
-    }
-    16
 }

@@ -2,7 +2,9 @@
 #![tactic(auto)]
 
 mod cursor;
+mod expected;
 mod letters;
 
-pub use cursor::{Cursor, Expected, Field};
+pub use cursor::Cursor;
+pub use expected::Expected;
 pub use letters::{Span, word};

@@ -2,168 +2,138 @@
 // It would catch a block or a slot lost at a seam, and a refusal given at the wrong place or in the wrong order.
 #![tactic(auto)]
 
-use answers::{Counted, Lookup, Written};
-use report::STDOUT;
+ghost use Rattle.std.specs.Prelude.{◌≡◌, length};
 
-fn say(text: &[u8]) {
-    io::write_all(STDOUT, text);
-}
+use answers::Refusal;
+use numbers::Number;
+use pieces::Output;
+use report::STDOUT;
+use std::fmt;
+use std::fmt::{Display, Write};
 
 // Bytes of all values, in no order.
 fn scatter(list: &mut [u8]) {
     let mut h: u32 = 2166136261;
-    let mut i = 0;
-    while i < list.len() {
+    for b in list.iter_mut() {
         h = fnv::step(h, 85);
-        list[i] = (h / 65536 % 256) as u8;
-        i += 1;
+        *b = (h / 65536 % 256) as u8;
     }
 }
 
-fn say_written(name: &[u8], answer: Written) {
-    say(name);
+// What was asked, and the answer with its unit or the refusal.
+fn say<W: fmt::Write, A: Display + Drop>(
+    out: &mut W,
+    asked: &str,
+    answer: Result<A, Refusal>,
+    unit: &str,
+) -> fmt::Result {
     match answer {
-        Written::Done(n) => {
-            io::print_decimal(STDOUT, n as u64);
-            say(b" bytes\n");
-        }
-        Written::Refused(r) => report::refusal(STDOUT, r),
+        Ok(a) => writeln!(out, "{asked}{a}{unit}"),
+        Err(r) => writeln!(out, "{asked}{r}"),
     }
 }
 
-fn say_counted(name: &[u8], answer: Counted) {
-    say(name);
-    match answer {
-        Counted::Records(n) => {
-            io::print_decimal(STDOUT, n as u64);
-            say(b" records\n");
-        }
-        Counted::Refused(r) => report::refusal(STDOUT, r),
-    }
-}
-
-fn say_lookup(name: &[u8], answer: Lookup) {
-    say(name);
-    match answer {
-        Lookup::Present => say(b"present\n"),
-        Lookup::Refused(r) => report::refusal(STDOUT, r),
-    }
-}
-
-fn size_of(answer: Written) -> usize {
-    match answer {
-        Written::Done(n) => n,
-        Written::Refused(_) => 0,
-    }
-}
-
-// The list's file goes into `file`, and the file's list into `again`.
-fn there_and_back(list: &[u8], file: &mut [u8], again: &mut [u8]) {
-    io::print_decimal(STDOUT, (list.len() / 16) as u64);
-    let k = size_of(packing::pack(list, file));
-    if k <= file.len() {
-        say_counted(b" records in: out ", blocks::sound(&file[0..k]));
-        let n = size_of(packing::unpack(&file[0..k], again));
-        if n <= again.len() {
-            if check::same(list, &again[0..n]) {
-                say(b"the same list\n");
-            } else {
-                say(b"ANOTHER LIST\n");
-            }
-        }
-    }
-}
-
-// So many records of `list`.
-fn trip(records: usize, list: &[u8], file: &mut [u8], again: &mut [u8]) {
-    if records <= 3968 {
-        if 16 * records <= list.len() {
-            there_and_back(&list[0..16 * records], file, again);
-        }
-    }
+// The list's file goes into `file`, and the file's list into `again`: how many records the file has, and whether its list is the same.
+#[tactic(auto, using(packing::proofs::Fits::pack_fits, packing::proofs::Fits::unpack_fits))]
+fn there_and_back(
+    list: &[u8],
+    file: &mut [u8],
+    again: &mut [u8],
+) -> Result<(usize, bool), Refusal> {
+    let k = packing::pack(list, file)?;
+    let records = blocks::sound(&file[..k])?;
+    let n = packing::unpack(&file[..k], again)?;
+    Ok((records, list == &again[..n]))
 }
 
 // A block's check, made right again.
-fn mend(block: &mut [u8]) {
-    if block.len() == 512 {
-        let check = fnv::check(block);
-        block[508] = (check % 256) as u8;
-        block[509] = (check / 256 % 256) as u8;
-        block[510] = (check / 65536 % 256) as u8;
-        block[511] = (check / 16777216 % 256) as u8;
-    }
+fn mend(block: &mut [u8])
+    requires { length block.old ≡ 512 }
+{
+    let check = fnv::check(block);
+    check.write(&mut block[508..]);
 }
 
 // Records of a file asked for by number, and files of lengths that are not allowed.
-fn asked(file: &[u8]) {
-    say_lookup(b"record 31: ", blocks::record_answer(file, 31));
-    say_lookup(b"record 32: ", blocks::record_answer(file, 32));
-    say_counted(b"no bytes: ", blocks::sound(b""));
-    say_counted(b"16 bytes: ", blocks::sound(b"not a whole file"));
+fn asked<W: fmt::Write>(out: &mut W, file: &[u8]) -> fmt::Result {
+    let present = blocks::record_answer(file, 31).map(|_| "present");
+    say(out, "record 31: ", present, "")?;
+    let present = blocks::record_answer(file, 32).map(|_| "present");
+    say(out, "record 32: ", present, "")?;
+    say(out, "no bytes: ", blocks::sound(b""), " records")?;
+    let short = blocks::sound(b"not a whole file");
+    say(out, "16 bytes: ", short, " records")
 }
 
 // Lists of a length that is not allowed, and room that is too short.
-fn unfit(list: &[u8], file: &[u8]) {
+fn unfit<W: fmt::Write>(out: &mut W, list: &[u8], file: &[u8]) -> fmt::Result {
     let mut room = [0u8; 511];
-    say_written(
-        b"15 bytes packed: ",
-        packing::pack(b"fifteen bytes..", &mut room),
-    );
-    say_written(b"no room to pack: ", packing::pack(list, &mut room));
-    say_written(b"no room to unpack: ", packing::unpack(file, &mut room));
-}
-
-fn spoil(block: &mut [u8], at: usize) {
-    if at < block.len() {
-        block[at] = 1;
-    }
+    let fifteen = packing::pack(b"fifteen bytes..", &mut room);
+    say(out, "15 bytes packed: ", fifteen, " bytes")?;
+    let packed = packing::pack(list, &mut room);
+    say(out, "no room to pack: ", packed, " bytes")?;
+    let unpacked = packing::unpack(file, &mut room);
+    say(out, "no room to unpack: ", unpacked, " bytes")
 }
 
 // A file of two blocks with one fault more at each step.
-fn faults(file: &mut [u8]) {
-    if file.len() == 1024 {
-        spoil(&mut file[512..1024], 504);
-        say_counted(b"spare byte, check not: ", blocks::sound(file));
-        mend(&mut file[512..1024]);
-        say_counted(b"spare byte: ", blocks::sound(file));
-        say_lookup(b"spare byte, record 99: ", blocks::record_answer(file, 99));
-        spoil(&mut file[0..512], 5);
-        mend(&mut file[0..512]);
-        say_counted(b"early mark: ", blocks::sound(file));
-    }
+fn faults<W: fmt::Write>(out: &mut W, file: &mut [u8; 1024]) -> fmt::Result {
+    file[512 + 504] = 1;
+    say(
+        out,
+        "spare byte, check not: ",
+        blocks::sound(file),
+        " records",
+    )?;
+    mend(&mut file[512..]);
+    say(out, "spare byte: ", blocks::sound(file), " records")?;
+    let present = blocks::record_answer(file, 99).map(|_| "present");
+    say(out, "spare byte, record 99: ", present, "")?;
+    file[5] = 1;
+    mend(&mut file[..512]);
+    say(out, "early mark: ", blocks::sound(file), " records")
 }
 
 // A list of 32 records, which takes two blocks.
-fn refusals(list: &[u8], file: &mut [u8]) {
-    say_written(b"32 records: ", packing::pack(list, file));
-    asked(file);
-    unfit(list, file);
-    faults(file);
+fn refusals<W: fmt::Write>(out: &mut W) -> fmt::Result {
+    let mut list = [0u8; 512];
+    scatter(&mut list);
+    let mut file = [0u8; 1024];
+    let packed = packing::pack(&list, &mut file);
+    say(out, "32 records: ", packed, " bytes")?;
+    asked(out, &file)?;
+    unfit(out, &list, &file)?;
+    faults(out, &mut file)
 }
 
-// Lists that end within the first block, with it, and just after it; and so with the second.
-fn around_one(list: &[u8], file: &mut [u8], again: &mut [u8]) {
-    trip(1, list, file, again);
-    trip(31, list, file, again);
-    trip(32, list, file, again);
-}
-
-fn around_two(list: &[u8], file: &mut [u8], again: &mut [u8]) {
-    trip(61, list, file, again);
-    trip(62, list, file, again);
-    trip(63, list, file, again);
+// Lists that end within the first block, with it, and just after it; so with the second; and the longest.
+fn trips<W: fmt::Write>(out: &mut W) -> fmt::Result {
+    let mut list = [0u8; 63488];
+    scatter(&mut list);
+    let mut file = [0u8; 65536];
+    let mut again = [0u8; 63488];
+    for records in [1usize, 31, 32, 61, 62, 63, 3968] {
+        let Some(some) = list.get(..16 * records) else {
+            continue;
+        };
+        match there_and_back(some, &mut file, &mut again) {
+            Ok((found, same)) => {
+                let list = if same {
+                    "the same list"
+                } else {
+                    "ANOTHER LIST"
+                };
+                writeln!(out, "{records} records in: out {found} records\n{list}")?;
+            }
+            Err(r) => writeln!(out, "{records} records in: {r}")?,
+        }
+    }
+    Ok(())
 }
 
 fn main() {
-    let mut list = [0u8; 63488];
-    scatter(&mut list);
-    let mut file = io::large_buffer();
-    let mut again = [0u8; 63488];
-    around_one(&list, &mut file, &mut again);
-    around_two(&list, &mut file, &mut again);
-    trip(3968, &list, &mut file, &mut again);
-    let mut some = [0u8; 512];
-    scatter(&mut some);
-    let mut two = [0u8; 1024];
-    refusals(&some, &mut two);
+    let mut out = Output::to(STDOUT);
+    let _ = trips(&mut out);
+    let _ = refusals(&mut out);
+    out.end();
 }

@@ -1,170 +1,122 @@
 // The uses of one component's instances, and when what they read is there: what its picture is drawn from.
 #![tactic(auto)]
 
-ghost use Rattle.std.specs.Prelude.{◌<◌};
+ghost use Rattle.std.specs.Prelude.{◌≡◌, ℕ, ◌<◌, None};
+ghost use Rattle.std.specs.List.{list_any, slice_index_or};
+ghost use Rattle.std.specs.Option.{option_map};
+ghost use Rattle.parts.specs.Parts as Parts;
+ghost use Rattle.parts.specs.Shown.{shown, used, cycles};
+ghost use Rattle.uses.specs.Seen as Seen;
 
-use parts::NONE;
+use parts::{Component, Interval, Kind, Use};
 
-// Of each of up to 64 invocations its instance, its offset and its record; an instance that none has behind the last.
-#[derive(Clone, Copy)]
-pub struct Uses {
-    pub instances: [u16; 64],
-    pub offsets: [u16; 64],
-    pub records: [u16; 64],
-}
-
-// From when to when each invocation finds what it reads.
-#[derive(Clone, Copy)]
-pub struct Available {
-    pub from: [u16; 64],
-    pub to: [u16; 64],
-}
-
-pub fn half(x: usize) -> u16 {
-    (x % 65536) as u16
-}
-
-fn wide(x: u16) -> usize
-    ensures { result < 65536 }
+// A use at the start alone, of instance 0: so a component's own ports are used.
+pub fn once() -> Use
+    ensures { used result ≡ Seen.once }
 {
-    x as usize
-}
-
-pub fn greater(a: usize, b: usize) -> usize {
-    if a < b { b } else { a }
-}
-
-pub fn all_uses(list: &[u8], first: usize) -> Uses {
-    let mut instances = [65535u16; 64];
-    let mut offsets = [0u16; 64];
-    let mut records = [65535u16; 64];
-    let mut j = 0;
-    while j < 64 {
-        let u = parts::invocation(list, first, j);
-        instances[j] = half(u.instance);
-        offsets[j] = half(u.offset);
-        records[j] = half(u.record);
-        j += 1;
-    }
-    Uses {
-        instances,
-        offsets,
-        records,
+    Use {
+        instance: 0,
+        offset: 0,
+        record: 0,
     }
 }
 
-// A use at the start alone, of instance 0.
-pub fn once() -> Uses {
-    let mut instances = [65535u16; 64];
-    instances[0] = 0;
-    Uses {
-        instances,
-        offsets: [0; 64],
-        records: [0; 64],
+// The greatest end of a component's ports, of which there are at most 16 inputs and 16 outputs.
+#[tactic(auto, using(crate::proofs::Ends::ends_none, crate::proofs::Ends::ends_more))]
+fn ports_end(component: Component<'_>) -> u16
+    ensures { result ≡ Seen.ports_end (shown component.entry) }
+{
+    let mut end = 0;
+    for n in 0..16 {
+        let input = component.port(Kind::Input, n).map_or(0, |p| p.end);
+        let output = component.port(Kind::Output, n).map_or(0, |p| p.end);
+        end = end.max(input).max(output);
     }
+    end
 }
 
-pub fn invoked(u: Uses, i: u16) -> bool {
-    let instances = u.instances;
-    let mut j = 0;
-    while j < 64 {
-        if instances[j] == i {
-            return true;
+// A component with its first 64 invocations, each in its place.
+#[derive(Clone, Copy)]
+pub struct Uses<'a> {
+    pub component: Component<'a>,
+    pub invocations: [Option<Use>; 64],
+}
+
+impl<'a> Uses<'a> {
+    pub fn of(component: Component<'a>) -> Uses<'a>
+        ensures whole { shown result.component ≡ shown component.entry }
+        ensures each { (j : ℕ) → j < 64 → option_map used (slice_index_or result.invocations j None) ≡ Parts.invocation (shown component.entry) j }
+    {
+        // A `for`, since with `array::from_fn` the clause `each` did not prove.
+        let mut invocations = [None; 64];
+        for j in 0..64 {
+            invocations[j] = component.invocation(j);
         }
-        j += 1;
-    }
-    false
-}
-
-// What is always there.
-pub fn always() -> Available {
-    Available {
-        from: [0; 64],
-        to: [65535; 64],
-    }
-}
-
-// For an input of an instance: each use's argument stands behind its invocation.
-pub fn arguments(list: &[u8], first: usize, u: Uses, instance: u16, input: usize) -> Available {
-    let instances = u.instances;
-    let records = u.records;
-    let mut from = [0u16; 64];
-    let mut to = [0u16; 64];
-    let mut j = 0;
-    while j < 64 {
-        if instances[j] == instance {
-            let i = parts::reads(list, first, behind(records[j], input));
-            from[j] = half(i.start);
-            to[j] = half(i.end);
+        Uses {
+            component,
+            invocations,
         }
-        j += 1;
     }
-    Available { from, to }
-}
 
-fn behind(r: u16, input: usize) -> usize {
-    if 16 < input {
-        return NONE;
+    // Whether this instance is ever used.
+    pub fn invoke(&self, instance: u16) -> bool
+        ensures { result ≡ list_any (Seen.is_of instance) self.now.invocations }
+    {
+        self.invocations
+            .iter()
+            .any(|used| matches!(used, Some(u) if u.instance == instance))
     }
-    wide(r) + 1 + input
-}
 
-// For an own output: its connection.
-pub fn connection(list: &[u8], first: usize, output: usize) -> Available {
-    let i = parts::reads(list, first, parts::nth(list, first, 7, output));
-    let a = half(i.start);
-    let b = half(i.end);
-    Available {
-        from: [a; 64],
-        to: [b; 64],
-    }
-}
-
-// The greatest end of the component's ports of this kind.
-fn end_of(list: &[u8], first: usize, k: u8) -> usize {
-    let mut most = 0;
-    let mut n = 0;
-    while n < 16 {
-        let i = parts::port(list, first, k, n);
-        most = greater(most, i.end);
-        n += 1;
-    }
-    most
-}
-
-pub fn ports_end(list: &[u8], first: usize) -> usize {
-    greater(end_of(list, first, 2), end_of(list, first, 3))
-}
-
-// How long an invocation of an instance is seen.
-fn reach(list: &[u8], first: usize, instance: usize) -> usize {
-    let made = parts::component(list, parts::named(list, first, instance));
-    let h = parts::head_of(list, made);
-    greater(h.delay, ports_end(list, made))
-}
-
-fn sum(a: usize, b: usize) -> usize {
-    if 65535 < a {
-        return 65535;
-    }
-    if 65535 < b {
-        return 65535;
-    }
-    a + b
-}
-
-// How many cycles the first start is seen for, and the next one, `delay` cycles later.
-pub fn cycles(list: &[u8], first: usize, u: Uses, delay: usize) -> usize {
-    let instances = u.instances;
-    let offsets = u.offsets;
-    let mut most = greater(1, ports_end(list, first));
-    let mut j = 0;
-    while j < 64 {
-        let i = wide(instances[j]);
-        if i < 65535 {
-            most = greater(most, sum(wide(offsets[j]), reach(list, first, i)));
+    // When what an invocation gives to an input of an instance is there: never, where it is of another instance.
+    fn argument(&self, used: Option<Use>, instance: u16, input: usize) -> Interval
+        ensures { cycles result ≡ Seen.argument (shown self.now.component) instance input used }
+    {
+        match used {
+            Some(u) if u.instance == instance => self.component.argued(u, input),
+            _ => Interval::NEVER,
         }
-        j += 1;
     }
-    sum(most, delay)
+
+    // For an input of an instance: when the argument of each use is there.
+    pub fn arguments(&self, instance: u16, input: usize) -> [Interval; 64]
+        ensures { (j : ℕ) → j < 64 → Seen.time result j ≡ Seen.argument (shown self.now.component) instance input (slice_index_or self.now.invocations j None) }
+    {
+        // A `for`, since with the array's `map` the clause did not prove.
+        let mut there = [Interval::NEVER; 64];
+        for j in 0..64 {
+            there[j] = self.argument(self.invocations[j], instance, input);
+        }
+        there
+    }
+
+    // How long an invocation of an instance is seen.
+    fn reach(&self, instance: u16) -> u16
+        ensures { result ≡ Seen.reach (shown self.now.component) instance }
+    {
+        match self.component.named(usize::from(instance)) {
+            Some(made) => made.delay.max(ports_end(made)),
+            None => 0,
+        }
+    }
+
+    // The cycle until which an invocation is seen.
+    fn seen(&self, used: Option<Use>) -> u16
+        ensures { result ≡ Seen.seen (shown self.now.component) used }
+    {
+        match used {
+            Some(u) => u.offset.saturating_add(self.reach(u.instance)),
+            None => 0,
+        }
+    }
+
+    // How many cycles the first start is seen for, and the next one, `delay` cycles later.
+    pub fn cycles(&self) -> u16
+        ensures { result ≡ Seen.cycles (shown self.now.component) self.now.invocations }
+    {
+        self.invocations
+            .iter()
+            .fold(1, |last: u16, used| last.max(self.seen(*used)))
+            .max(ports_end(self.component))
+            .saturating_add(self.component.delay)
+    }
 }

@@ -9,6 +9,7 @@ use native.Mathlib.Decide.{ℕ_discrete}
 use lib.ListN.{length, get_or, set}
 use lib.Seq.{get_or-set_same, get_or-set_other}
 use borrow.Author.Tests.{eq-eqb, ne_eqb}
+use Rattle.std.specs.Prelude.{Option, None, Some, IfSome}
 use Rattle.reading.specs.Changed.{changed}
 use Rattle.reading.specs.Reader.{Row}
 use Rattle.signatures.specs.declared.Signature.{Signature}
@@ -21,24 +22,29 @@ use Rattle.component.specs.Wanted.{wanted, gathered}
 use Rattle.component.proofs.Gathered.{gathered_row, ahead_short}
 use Rattle.verdict.specs.Judgement.{kept, shown}
 
-pub kept_stored : (table : List Signature) (p : ℕ) (s : Signature) → p < length table → (c : ℕ) → kept (set table p s) c ≡ changed (kept table) p s c
+pub kept_stored : (table new : List Signature) (p : ℕ) (s : Signature) → new ≡ set table p s → p < length table → (c : ℕ) → kept new c ≡ changed (kept table) p s c
 unfolding changed
-kept_stored table p s l c = go (ℕ_discrete c p)
+kept_stored table new p s e l c = rw e (go (ℕ_discrete c p))
   where
     go : Dec (c ≡ p) → kept (set table p s) c ≡ changed (kept table) p s c
     go (yes e) = rw (e, eq-eqb p p refl) (get_or-set_same table p s zero_row l)
     go (no d) = rw (ne_eqb c p d) (get_or-set_other table p c s zero_row d)
 
 -- The rows of the instances ahead.
-module _ (file : List ℕ) (n at : ℕ) (w : Wanted) (are : wanted file w ≡ ahead file (n - at) at 0) (first : w.place ≡ 0) where
+module _ (file : List ℕ) (n at : ℕ) (first : Option Wanted) (are : wanted file first ≡ ahead file (n - at) at 0) where
   few_ahead : length (ahead file (n - at) at 0) ≤ 32
   few_ahead = let z = ahead_short file (n - at) at 0 (omega arith) in omega arith
 
-  pub few_wanted : (numbers : ℕ) → numbers ≡ 160 → 5 * (w.place + length (wanted file w)) ≤ numbers
-  few_wanted numbers e = let z = few_ahead in rw (are, first) (omega arith)
+  pub few_wanted : 5 * length (wanted file first) ≤ 160
+  few_wanted = let z = few_ahead in rw are (omega arith)
 
-  pub held_ahead : (table : List Signature) (held : List ℕ) (rows : ℕ → Row) (number : ℕ) → length held ≡ 160 → ((c : ℕ) → c < number → shown table c ≡ rows c) → HoldsRows file n rows at number (gathered held table w.place (wanted file w))
+  pub held_ahead : (table : List Signature) (held : List ℕ) (rows : ℕ → Row) (number : ℕ) → length held ≡ 160 → ((c : ℕ) → c < number → shown table c ≡ rows c) → HoldsRows file n rows at number (gathered held table 0 (wanted file first))
   held_ahead table held rows number e shows m l k =
       let z = few_ahead in
       let y : row_in (gathered held table 0 (ahead file (n - at) at 0)) (0 + m) ≡ shown table (get_or (ahead file (n - at) at 0) m 0) = gathered_row held table 0 (ahead file (n - at) at 0) (omega arith) m l in
-      rw (are, first) (rw (zero-add m) at y ∙ shows (get_or (ahead file (n - at) at 0) m 0) k)
+      rw are (rw (zero-add m) at y ∙ shows (get_or (ahead file (n - at) at 0) m 0) k)
+
+-- Beside a place, what is known anyhow.
+pub placed : (first : Option Wanted) → IfSome first (λ w. w.place ≡ 0) → {A : Type 0} → A → IfSome first (λ w. (w.place ≡ 0) × A)
+placed None p a = tt
+placed (Some w) p a = (p, a)

@@ -2,11 +2,10 @@ pub mod Counts
 pub mod Whole
 pub mod Passed
 pub mod Unpacked
-pub mod Going
-pub mod Reached
-pub mod Handed
 pub mod Begins
 pub mod Holding
+pub mod Handed
+pub mod Going
+pub mod Reached
 pub mod Rows
 pub mod Every
-pub mod Next

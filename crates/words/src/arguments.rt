@@ -5,20 +5,14 @@ use std::env::{Env, FillError};
 
 // Whether there is a word i, however long it is.
 pub fn given(rt: &impl Env, i: usize) -> bool {
-    let mut space = [0u8; 1];
-    match rt.arg(i, &mut space) {
-        Ok(_) => true,
-        Err(FillError::TooLong) => true,
-        Err(FillError::NotPresent) => false,
-    }
+    !matches!(rt.arg(i, &mut [0; 1]), Err(FillError::NotPresent))
 }
 
-// Puts word i at the start of `space`, and says how long it is. One that is absent, or too long for it, is an empty word.
-pub fn argument(rt: &impl Env, i: usize, space: &mut [u8]) -> usize
-    ensures { result ≤ length space.new }
+// Word i, which is put at the start of `space`. One that is absent, or too long for it, is an empty word:
+// this cannot fail, and `given` says which words there are.
+pub fn argument<'a>(rt: &impl Env, i: usize, space: &'a mut [u8]) -> &'a [u8]
+    ensures { length result.now ≤ length space.old }
 {
-    match rt.arg(i, space) {
-        Ok(n) => n,
-        Err(_) => 0,
-    }
+    let n = rt.arg(i, space).unwrap_or(0);
+    &space[..n]
 }

@@ -2,48 +2,30 @@
 #![tactic(auto)]
 
 ghost use Rattle.std.specs.Prelude.{◌≡◌};
-ghost use Rattle.words.specs.Said.{said, goes_on};
+ghost use Rattle.words.specs.Said.{said, with_digit};
 
 pub mod arguments;
 
-#[derive(Drop)]
-pub enum Word {
-    // decimal digits, of a number that 64 bits hold
-    Number(u64),
-    Other,
-}
-
-// Whether one more digit, behind digits that say v, says a number that 64 bits hold.
-fn goes_on(v: u64, b: u8) -> bool
-    ensures { result ≡ goes_on v b }
+// What digits that say v say with one more behind them, if it is a digit, and a number that 64 bits hold.
+fn with_digit(v: u64, b: u8) -> Option<u64>
+    ensures { result ≡ with_digit v b }
 {
-    if b < 48 {
-        return false;
+    match b {
+        b'0'..=b'9' => v.checked_mul(10)?.checked_add(u64::from(b - b'0')),
+        _ => None,
     }
-    if 57 < b {
-        return false;
-    }
-    if 1844674407370955161 < v {
-        return false;
-    }
-    ((b - 48) as u64) <= 18446744073709551615 - 10 * v
 }
 
-pub fn number(word: &[u8]) -> Word
+#[tactic(auto, using(crate::proofs::Digits::digit_more, crate::proofs::Digits::digit_none, crate::proofs::Digits::digits_end, crate::proofs::Digits::said_some))]
+pub fn number(word: &[u8]) -> Option<u64>
     ensures { result ≡ said word.now }
 {
-    if word.len() == 0 {
-        return Word::Other;
+    if word.is_empty() {
+        return None;
     }
-    let mut v = 0u64;
-    let mut i = 0;
-    while i < word.len() {
-        let b = word[i];
-        if !goes_on(v, b) {
-            return Word::Other;
-        }
-        v = 10 * v + ((b - 48) as u64);
-        i += 1;
+    let mut v = 0;
+    for b in word {
+        v = with_digit(v, *b)?;
     }
-    Word::Number(v)
+    Some(v)
 }

@@ -1,11 +1,8 @@
--- The units of the instances before number m are counted.
-use Rattle.std.proofs.Common.{◌+◌, ◌-◌}
-use Rattle.groups.specs.Groups.{design_of}
+-- The units of the instances before the one in record i are counted.
+use Rattle.std.proofs.Common.{◌-◌}
+use Rattle.counting.specs.Known.{design}
 use Rattle.counting.proofs.Turns.{Counted}
 use Rattle.counting.proofs.count_units.Given as goal
 
-abbrev pub invariant-loop-m : goal.invariant-loop-m
-invariant-loop-m l = Counted (design_of l.file l.records) l.c l.m l.sum l.before
-
-abbrev pub decreases-loop-m : goal.decreases-loop-m
-decreases-loop-m l = l.end - (l.first + l.m)
+abbrev pub invariant-loop-i : goal.invariant-loop-i
+invariant-loop-i l = Counted (design l.judged) l.c (l.i - l.first) l.sum l.before

@@ -7,4 +7,4 @@ abbrev pub decreases-expand : goal.decreases-expand
 decreases-expand l = 4096 * l.c + 4000
 
 abbrev pub decreases-expand_invocations : goal.decreases-expand_invocations
-decreases-expand_invocations l = 4096 * l.c + (first_note l.ends.now (l.c + 1) - l.e)
+decreases-expand_invocations l = 4096 * l.c + (first_note l.notes.now.ends (l.c + 1) - l.e)

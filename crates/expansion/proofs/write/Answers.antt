@@ -11,5 +11,5 @@ returns c =
     rw (
       c.copy_from_slice.ensures.after,
       e,
-      front (listed c.args.noted.now c.args.ends.now c.args.c 0 0) c.expand.result (replicate 32768 0) c.expand.new.out c.args.out.now c.args.size c.expand.ensures c.requires.1 c.requires.3,
+      front (listed c.args.notes.now.noted c.args.notes.now.ends c.args.c 0 0) c.expand.result (replicate 32768 0) c.expand.new.out c.args.out.now c.args.size c.expand.ensures c.requires.1 c.requires.3,
     ) refl

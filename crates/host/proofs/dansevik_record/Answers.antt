@@ -3,7 +3,7 @@ use Rattle.std.proofs.Common.{arith, sym}
 use Rattle.host.proofs.Records.{below_all_numbers}
 use Rattle.host.proofs.dansevik_record.Goals as goal
 
-pub place_of-requires : goal.place_of-requires
-place_of-requires c =
-    let few = below_all_numbers c.args.file.now c.size-number.result (sym c.in-Present.ensures) in
+pub place-requires : goal.place-requires
+place-requires c =
+    let few = below_all_numbers c.args.file.now c.args.asked (sym c.in-Ok.ensures) in
     omega arith

@@ -8,7 +8,7 @@ use Rattle.packing.proofs.put_records.Goals as goal
 
 pub loop-b-init : goal.loop-b-init
 unfolding unpacked_to
-loop-b-init c = (omega arith, refl)
+loop-b-init c = refl
 
 pub slice_bounds-copy_from_slice-end : goal.slice_bounds-copy_from_slice-end
 slice_bounds-copy_from_slice-end c = omega (arith, stretch_within c.args.file.now c.requires.0 c.loop-b.b (omega arith))
@@ -17,7 +17,7 @@ pub loop-b-preserved : goal.loop-b-preserved
 loop-b-preserved c =
     let b = c.loop-b.b in
     let p : b < block_count c.args.file.now = omega arith in
-    (omega arith, unpack_more c.args.file.now c.args.out.now c.requires.0 b p c.loop-b.out c.copy_from_slice.new.self c.index-used.result c.index-used.ensures.0 c.loop-b.invariant.1 c.copy_from_slice.ensures.after)
+    unpack_more c.args.file.now c.args.out.now c.requires.0 b p c.loop-b.out c.copy_from_slice.new.self c.from-used.result c.from-used.ensures c.loop-b.invariant c.copy_from_slice.ensures.after
 
 pub returns : goal.returns
-returns c = unpack_done c.args.file.now c.args.out.now c.loop-b.out c.loop-b.b c.requires.0 (omega arith) c.loop-b.invariant.1
+returns c = unpack_done c.args.file.now c.args.out.now c.loop-b.out c.loop-b.b c.requires.0 (omega arith) c.loop-b.invariant

@@ -1,8 +1,6 @@
 -- An invocation that meets with no refusal: what is noted of it, and what is kept after it.
--- Assumes nothing.
-use Rattle.std.proofs.Common.{[], refl, sym, ap, ◌∙◌, arith}
+use Rattle.std.proofs.Common.{[], refl, sym, arith}
 use Rattle.rules.specs.Calls.{no_look}
-use Rattle.reader.specs.declared.Reader.{Reader}
 use Rattle.reader.specs.Rows.{row, none}
 use Rattle.reader.specs.State.{state, viewed}
 use Rattle.reader.proofs.Kept.{kept_invocation, went_turn}
@@ -10,15 +8,16 @@ use Rattle.reader.proofs.Notes.{noted_invocation}
 use Rattle.reader.proofs.Passed.{invocation_built, room_invocation}
 use Rattle.reader.proofs.turn.Goals as goal
 
-pub returns-else-no-ne0-4 : goal.returns-else-no-ne0-4
-returns-else-no-ne0-4 c =
+pub returns-in_ok-invocation_refusal-in-Invocation :
+    goal.returns-in_ok-invocation_refusal-in-Invocation
+returns-in_ok-invocation_refusal-in-Invocation c =
     let a = c.args in
+    let k = a.kept.now in
     let w = c.in-Invocation in
-    let q = c.answered-in-Invocation in
-    let seen_as = viewed none (state a.r (λ m. row a.v) a.instances.now a.offsets.now [] []) in
+    let seen_as = viewed none (state a.r (λ m. row a.v) k.instances k.offsets [] []) in
     let ranged = rw w.is at c.requires.0 in
-    let passed = sym c.invocation_refusal-no.ensures ∙ c.if-no-ne0-4.false in
-    let at = c.size-at.ensures.0 in
-    let first = c.wide.ensures in
-    let inputs = c.wide-in-Invocation.ensures in
-    (noted_invocation a.r a.instances.now a.offsets.now a.firsts.now a.least.now a.greatest.now c.requires.4 w.n w.k ranged.0 ranged.1 q.result.reader _ _ _ c.size-at.result _ _ _ (ap (λ (y : Reader). y.place) q.ensures.1) c.invocation.ensures refl refl (invocation_built no_look seen_as _ passed) refl (room_invocation no_look seen_as _ passed) at (cc) (cc) (omega (arith, first.0, first.1, inputs.0, inputs.1)), rw w.is (went_turn _ _ _ _ _ c.invocation_refusal-no.result _ c.invocation_refusal-no.ensures q.ensures.0 c.if-no-ne0-4.false (kept_invocation a.v a.instances.now a.offsets.now a.outputs.now a.firsts.now a.r q.result.reader _ _ _ _ _ _ _ _ _ refl first.0 inputs.0 c.size-in-Invocation.ensures.0 c.size.ensures.0 c.size-in-Invocation-2.ensures.0 c.invocation.ensures q.ensures.1) (omega (arith, c.size-in-Invocation.ensures.0, c.size-in-Invocation.ensures.1))))
+    let passed = sym c.in_ok-invocation_refusal-in-Invocation.ensures in
+    rw (c.note.ensures, w.is) (
+      noted_invocation a.r k.instances k.offsets k.firsts k.least k.greatest c.requires.4 w.n w.k ranged.0 ranged.1 _ _ _ _ c.invocation.ensures refl refl (invocation_built no_look seen_as _ passed) refl (room_invocation no_look seen_as _ passed) (omega arith),
+      went_turn _ _ _ _ _ 0 _ c.in_ok-invocation_refusal-in-Invocation.ensures refl refl (kept_invocation a.v k.instances k.offsets k.outputs k.firsts a.r _ _ _ _ _ _ c.from-in-Invocation.ensures c.from.ensures c.from-in-Invocation-2.ensures c.invocation.ensures) (omega arith),
+    )

@@ -1,10 +1,7 @@
 -- The latest end of the ports so far.
-use Rattle.std.proofs.Common.{◌-◌, ◌≡◌, ◌≤◌}
+use Rattle.std.proofs.Common.{◌≡◌}
 use Rattle.rows.specs.Rows.{latest}
 use Rattle.rows.proofs.latest.Given as goal
 
 abbrev pub invariant-loop-p : goal.invariant-loop-p
-invariant-loop-p l = (l.p ≤ l.n) × (l.most ≡ latest l.file l.i l.p)
-
-abbrev pub decreases-loop-p : goal.decreases-loop-p
-decreases-loop-p l = l.n - l.p
+invariant-loop-p l = l.most ≡ latest l.file l.i l.p

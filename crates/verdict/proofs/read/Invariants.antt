@@ -1,10 +1,11 @@
-use Rattle.std.proofs.Common.{length}
+-- The table has the rows of the components before, and each component leaves fewer records.
+use Rattle.std.proofs.Common.{◌-◌}
 use Rattle.verdict.specs.Judgement.{kept}
-use Rattle.verdict.proofs.Going.{Stands, left}
+use Rattle.verdict.proofs.Going.{Going}
 use Rattle.verdict.proofs.read.Given as goal
 
-abbrev pub invariant-loop-q : goal.invariant-loop-q
-invariant-loop-q l = Stands l.file (length l.fn.table) l.n l.q.goes (kept l.table) l.q
+abbrev pub invariant-loop-e : goal.invariant-loop-e
+invariant-loop-e l = Going l.file l.count (kept l.table) l.q
 
-abbrev pub decreases-loop-q : goal.decreases-loop-q
-decreases-loop-q l = left l.n l.q.goes l.q.at
+abbrev pub decreases-loop-e : goal.decreases-loop-e
+decreases-loop-e l = l.count - l.q.at

@@ -1,10 +1,18 @@
 -- The rows of the instances ahead may be handed to `hold`, and what `read_component` reads beside them is the next component.
-use Rattle.std.proofs.Common.{replicate, refl}
-use Rattle.verdict.proofs.Next.{may_hold, next_read}
+use Rattle.std.proofs.Common.{◌-◌, replicate, refl, sym, subst}
+use Rattle.component.specs.Component.{HoldsRows}
+use Rattle.verdict.proofs.Handed.{few_wanted, held_ahead, placed}
 use Rattle.verdict.proofs.read_next.Goals as goal
 
 pub hold-requires : goal.hold-requires
-hold-requires c = may_hold c.args.file.now c.args.n c.args.table.now c.args.q (replicate 160 0) refl c.instances_ahead.result c.instances_ahead.ensures c.requires
+hold-requires c =
+    let a = c.args in
+    let ahead = c.instances_ahead in
+    (ahead.ensures.0, placed ahead.result ahead.ensures.2 c.requires.0, few_wanted a.records.file.now a.records.count a.q.at ahead.result ahead.ensures.1)
 
 pub returns : goal.returns
-returns c = next_read c.args.file.now c.args.n c.args.table.now c.args.q (replicate 160 0) refl c.instances_ahead.result c.instances_ahead.ensures c.hold.new.rows c.hold.ensures c.read_component.result c.read_component.ensures
+returns c =
+    let a = c.args in
+    let ahead = c.instances_ahead in
+    let read = c.read_component.ensures in
+    (read.0, λ rows shows. read.1 rows (subst (HoldsRows a.records.file.now a.records.count rows a.q.at (a.q.count - 1)) (sym c.hold.ensures) (held_ahead a.records.file.now a.records.count a.q.at ahead.result ahead.ensures.1 a.table.now (replicate 160 0) rows (a.q.count - 1) refl shows)))

@@ -1,7 +1,0 @@
--- Bytes are zero exactly when the numbers in them are.
-use Rattle.std.proofs.Common.{refl}
-use Rattle.records.proofs.Zeros.{zero_rest}
-use Rattle.records.proofs.zero_from_4.Goals as goal
-
-pub returns : goal.returns
-returns c = rw (c.four.ensures, c.eight.ensures) (zero_rest c.args.s.now c.requires 4 4 8 refl)

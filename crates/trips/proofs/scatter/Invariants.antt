@@ -1,9 +1,0 @@
--- What `trips::scatter` has written lies within the list.
-use Rattle.std.proofs.Common.{length, ◌-◌, ◌≤◌}
-use Rattle.trips.proofs.scatter.Given as goal
-
-abbrev pub invariant-loop-i : goal.invariant-loop-i
-invariant-loop-i l = l.i ≤ length l.list
-
-abbrev pub decreases-loop-i : goal.decreases-loop-i
-decreases-loop-i l = length l.list - l.i

@@ -1,0 +1,11 @@
+-- What is unpacked fits the buffer, so the written part lies within it.
+use Rattle.std.proofs.Common.{arith, sym}
+use Rattle.std.proofs.lemmas.List.{length-take-le}
+use Rattle.packing.proofs.Fits.{unpack_fits}
+use Rattle.unpack.proofs.answer.Goals as goal
+
+pub slice_bounds-list-end : goal.slice_bounds-list-end
+slice_bounds-list-end c = omega (arith, unpack_fits _ _ _ (sym c.in-Ok.ensures.0))
+
+pub slice_bounds-write_all-end : goal.slice_bounds-write_all-end
+slice_bounds-write_all-end c = sym (length-take-le _ _ (omega (arith, unpack_fits _ _ _ (sym c.in-Ok.ensures.0))))
