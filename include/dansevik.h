@@ -1,8 +1,8 @@
 /* Dansevik for C and C++: judge a design file, write the control rows of one of its components, list when each physical unit
    starts, and turn record lists into files and back.
 
-   Link target/staticlib/libhost.a, which `tools/x86 archive` makes: an archive for x86-64 that needs nothing but memcpy and
-   memset. The functions keep no state, allocate nothing, and always return; calls that share no memory may run at the same time.
+   Link target/staticlib/libhost.a, which `tools/x86 archive` makes: an archive for x86-64 with SSE4.1 that needs nothing but
+   memcpy and memset. The functions keep no state, allocate nothing, and always return; calls that share no memory may run at the same time.
    On the stack, as measured, dansevik_list takes up to DANSEVIK_STACK_BYTES_MAX, every other call less than 8 KiB.
 
    What to pass

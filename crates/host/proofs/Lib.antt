@@ -1,2 +1,3 @@
+pub mod Opened
 pub mod Records
 pub mod Once
