@@ -12,7 +12,7 @@ use Rattle.parts.specs.declared.kind.Kind.{Kind}
 use Rattle.parts.specs.Parts.{is_of, nth_from}
 
 module _ (k : Kind) (records : List (List ℕ)) (i : ℕ) where
-  split : i < length records → drop i records ≡ slice_index_or records i [] ∷ drop (i + 1) records
+  pub split : i < length records → drop i records ≡ slice_index_or records i [] ∷ drop (i + 1) records
   split l = rw (add-one i) (drop-cons records i [] l)
 
   pub search_stops : i < length records → is_of k (slice_index_or records i []) ≡ true → nth_from k 0 i (drop i records) ≡ Some i

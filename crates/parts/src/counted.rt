@@ -7,7 +7,7 @@ ghost use Rattle.records.specs.Says.{says};
 ghost use Rattle.parts.specs.Parts as Parts;
 ghost use Rattle.parts.specs.Shown.{listed, shown};
 
-use crate::{Component, Kind, List, MOST, is_of, next_component, nth};
+use crate::{Component, Kind, List, MOST, is_of, nth};
 use records::Record;
 
 impl<'a> List<'a> {
@@ -55,15 +55,10 @@ impl<'a> List<'a> {
         let Record::Component(class, delay) = records::decode(&records[i]) else {
             return None;
         };
-        let after = &records[i + 1..];
-        let body = match next_component(after) {
-            Some(end) => &after[..end],
-            None => after,
-        };
         Some(Component {
             list: self,
             first: i,
-            body,
+            behind: &records[i + 1..],
             class,
             delay,
         })

@@ -7,23 +7,34 @@ ghost use Rattle.records.specs.Says as Says;
 ghost use Rattle.parts.specs.Parts as Parts;
 ghost use Rattle.parts.specs.Shown.{shown, used, cycles};
 
-use crate::{Component, Interval, Kind, Use, is_of, nth};
+use crate::{Component, Interval, Kind, Use, is_of, next_component, nth_before};
 use records::{Port, Record, Source};
 
 impl<'a> Component<'a> {
+    // Where in the list its own record stands.
+    pub fn first(self) -> usize
+        ensures { result ≡ (shown self.entry).first }
+    {
+        self.first
+    }
+
     // Where in the list the n-th record of a kind stands.
-    fn nth(self, kind: Kind, n: usize) -> Option<usize>
+    pub fn nth(self, kind: Kind, n: usize) -> Option<usize>
         ensures { result ≡ Parts.place (shown self.entry) kind n }
     {
-        let body = self.body;
-        Some(self.first + 1 + nth(body, kind, n)?)
+        let behind = self.behind;
+        Some(self.first + 1 + nth_before(behind, kind, n)?)
     }
 
     // How many records of a kind the component has.
     pub fn count(self, kind: Kind) -> usize
         ensures { result ≡ Parts.count kind (shown self.entry).body }
     {
-        let body = self.body;
+        let behind = self.behind;
+        let body = match next_component(behind) {
+            Some(end) => &behind[..end],
+            None => behind,
+        };
         body.iter().filter(|bytes| is_of(bytes, kind)).count()
     }
 
@@ -93,7 +104,7 @@ impl<'a> Component<'a> {
 
     // When what an argument or a connection record reads is there: never, where the record is none of these.
     #[tactic(auto, unfolding(crate::specs::Parts::reads))]
-    fn reads(self, r: usize) -> Interval
+    pub fn reads(self, r: usize) -> Interval
         ensures { cycles result ≡ Parts.reads (shown self.entry) r }
     {
         match self.list.record(r) {

@@ -49,6 +49,28 @@ fn nth(records: &[[u8; 16]], kind: Kind, n: usize) -> Option<usize>
     None
 }
 
+// Where the n-th record of a kind stands before the next component.
+#[tactic(auto, using(crate::proofs::Before::here_stops, crate::proofs::Before::here_found, crate::proofs::Before::here_counts, crate::proofs::Before::here_passes, crate::proofs::Before::here_ends), unfolding(crate::specs::Parts::is_of))]
+fn nth_before(records: &[[u8; 16]], kind: Kind, n: usize) -> Option<usize>
+    ensures place { result ≡ Parts.nth kind n (Parts.up_to (position (Parts.is_of Kind.Component) records.now) records.now) }
+    ensures inside { IfSome result (λ i. i < length records.now) }
+{
+    let mut skip = n;
+    for (i, bytes) in records.iter().enumerate() {
+        let here = kind_of(bytes);
+        if here == Some(Kind::Component) {
+            return None;
+        }
+        if here == Some(kind) {
+            if skip == 0 {
+                return Some(i);
+            }
+            skip -= 1;
+        }
+    }
+    None
+}
+
 // Where the next component stands.
 fn next_component(records: &[[u8; 16]]) -> Option<usize>
     ensures place { result ≡ position (Parts.is_of Kind.Component) records.now }
@@ -72,16 +94,17 @@ pub fn last(list: &[u8]) -> usize
     List::of(list).components().saturating_sub(1)
 }
 
-// A component: its class and its delay, as its own record says, and the records behind that one, as far as the next component.
+// A component: its class and its delay, as its own record says, and the records behind that one, of which it has those before the next
+// component. Where that one stands is left to each look, since most stop earlier.
 #[derive(Clone, Copy)]
 pub struct Component<'a> {
     list: List<'a>,
     first: usize,
-    body: &'a [[u8; 16]],
+    behind: &'a [[u8; 16]],
     pub class: Class,
     pub delay: u16,
     ghost first_small: { first < 3968 },
-    ghost body_small: { length body.now ≤ 3968 },
+    ghost behind_small: { length behind.now ≤ 3968 },
 }
 
 // An invocation: its instance, its offset, and its record.

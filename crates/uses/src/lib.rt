@@ -23,7 +23,7 @@ pub fn once() -> Use
 
 // The greatest end of a component's ports, of which there are at most 16 inputs and 16 outputs.
 #[tactic(auto, using(crate::proofs::Ends::ends_none, crate::proofs::Ends::ends_more))]
-fn ports_end(component: Component<'_>) -> u16
+pub fn ports_end(component: Component<'_>) -> u16
     ensures { result ≡ Seen.ports_end (shown component.entry) }
 {
     let mut end = 0;
