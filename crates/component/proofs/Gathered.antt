@@ -62,3 +62,9 @@ pub in_order_length : (left c : ℕ) → length (in_order left c) ≡ left
 unfolding in_order
 in_order_length zero c = refl
 in_order_length (suc left) c = ap suc (in_order_length left (suc c))
+
+pub in_order_at : (left c m : ℕ) → m < left → get_or (in_order left c) m 0 ≡ c + m
+unfolding in_order
+in_order_at zero c m l = absurd (omega arith)
+in_order_at (suc left) c zero l = omega arith
+in_order_at (suc left) c (suc m) l = let y = in_order_at left (suc c) m (omega arith) in omega arith

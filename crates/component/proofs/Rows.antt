@@ -1,12 +1,15 @@
 -- A row that is put into a table is there, and the other rows stay.
 -- Assumes nothing.
 use Prim.Native.Nat.{ℕ, ◌+◌, ◌*◌, ◌≤◌}
-use mathlib.Core.Path.{◌≡◌, ◌∙◌}
+use mathlib.Core.Path.{◌≡◌, refl, ◌∙◌}
 use mathlib.Core.List.{List}
 use mathlib.Core.Logic.{◌≢◌}
 use native.Mathlib.Omega.{arith}
 use lib.ListN.{length, get_or, set, length-set}
 use lib.Seq.{get_or-set_same, get_or-set_other}
+use native.Mathlib.Decide.{ℕ_discrete}
+use borrow.Author.Tests.{eq-eqb, ne_eqb}
+use Rattle.reading.specs.Changed.{changed}
 use Rattle.signatures.specs.declared.Signature.{Signature}
 use Rattle.reader.specs.Rows.{row, row_in, put_row}
 
@@ -82,3 +85,12 @@ module _ (l : List ℕ) (c : ℕ) (w : Signature) where
       elsewhere l (5 * c) w.class w.delay w.inputs w.outputs w.first (5 * b + k) (λ z. absurd (d (omega arith))) (λ z. absurd (d (omega arith))) (λ z. absurd (d (omega arith))) (λ z. absurd (d (omega arith))) (λ z. absurd (d (omega arith))) in
       let first = elsewhere l (5 * c) w.class w.delay w.inputs w.outputs w.first (5 * b) (λ z. absurd (d (omega arith))) (λ z. absurd (d (omega arith))) (λ z. absurd (d (omega arith))) (λ z. absurd (d (omega arith))) (λ z. absurd (d (omega arith))) in
       rw (first, same 1 (omega arith), same 2 (omega arith), same 3 (omega arith), same 4 (omega arith))
+
+-- The table with a row stored, as a function.
+pub row_stored : (rows : List ℕ) (n : ℕ) (w : Signature) → 5 * n + 5 ≤ length rows → (c : ℕ) → row_in (put_row rows n w) c ≡ changed (λ b. row_in rows b) n (row w) c
+unfolding changed
+row_stored rows n w f c = go (ℕ_discrete c n)
+  where
+    go : Dec (c ≡ n) → row_in (put_row rows n w) c ≡ changed (λ b. row_in rows b) n (row w) c
+    go (yes e) = rw (e, eq-eqb n n refl) (row_there rows n w f)
+    go (no d) = rw (ne_eqb c n d) (row_elsewhere rows n w c d)

@@ -2,7 +2,7 @@
 -- Assumes nothing.
 use Prim.Native.Nat.{ℕ, zero, suc, ◌+◌, ◌-◌, ◌≤◌, ◌<◌}
 use mathlib.Core.Bool.{true, false, cond}
-use mathlib.Core.Path.{◌≡◌, refl, ap, ◌∙◌}
+use mathlib.Core.Path.{◌≡◌, refl, sym, ap, ◌∙◌}
 use mathlib.Core.List.{List, [], ◌∷◌}
 use mathlib.Core.Logic.{◌≢◌}
 use native.Mathlib.Omega.{arith}
@@ -17,13 +17,15 @@ use Rattle.reading.specs.Reader as Reading
 use Rattle.reading.specs.Reader.{Row, tests}
 use Rattle.reading.specs.Told.{told}
 use Rattle.reading.specs.Scan.{scan, final, tried}
+use Rattle.reading.specs.Reads.{Ranged, Passes}
 use Rattle.rules.specs.Failed.{first_failed}
 use Rattle.records.specs.Decoded.{decoded}
 use Rattle.look.specs.Look.{sixteen, look}
 use Rattle.reader.specs.State.{State}
-use Rattle.reader.proofs.Passed.{numbered, tried_first}
+use Rattle.reader.proofs.Passed.{numbered, passes, tried_first}
 use Rattle.look.specs.Listed.{sixteens}
-use Rattle.component.specs.Run.{Run, reads, after, view, next, from, rest, last, Onward}
+use Rattle.component.specs.Run.{Run, reads, after, view, next, Own, from, rest, last, Onward}
+use Rattle.component.proofs.Keeps.{own_next}
 
 module _ (file : List ℕ) (n : ℕ) where
   pub stay : (a : Run) (i : ℕ) → Onward file n a i a i
@@ -60,6 +62,12 @@ module _ (file : List ℕ) (n : ℕ) where
 
       pub steps : m ≡ 0 → Onward file n s i (next s i x) (i + 1)
       steps z = record { answer = goes z; leads = leads }
+
+      pub passed : m ≡ 0 → Passes (tests (look file) (view s) x)
+      passed z = passes (tests (look file) (view s) x) (numbered (look file) (view s) x) (sym t ∙ z)
+
+      pub owns : m ≡ 0 → i < 65536 → Ranged x → Own s → Own (next s i x)
+      owns z b r o = (own_next (look file) s i x b o r (passed z)).1
 
   module _ (i : ℕ) (l : n ≤ i) where
     from_none : from file n i ≡ []

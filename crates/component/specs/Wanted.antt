@@ -25,6 +25,11 @@ abbrev pub wanted : List ℕ → Option Wanted → List ℕ
 wanted file None = []
 wanted file (Some w) = w.component ∷ later file w
 
+-- The place of the first row that is wanted.
+abbrev pub placed : Option Wanted → ℕ
+placed None = 0
+placed (Some w) = w.place
+
 -- So many components, from the first on.
 abbrev pub every_below : ℕ → Option Wanted
 every_below zero = None

@@ -9,6 +9,15 @@ use Rattle.timeline.specs.Design.{Design, Class, leaf, built, class, instance_co
 use Rattle.timeline.specs.Rules.{Lawful}
 use Rattle.timeline.specs.Flat.{sum_below, unit_count, units_before}
 use Rattle.timeline.proofs.Rows.{unit_count_built, units_before_sum}
+use Rattle.expansion.specs.Noted.{capped}
+
+-- Counts stopped on the way are stopped at the end, and otherwise whole.
+pub capped_sum : (n : ℕ) (f g : ℕ → ℕ) → ((i : ℕ) → i < n → g i ≡ capped (f i)) → capped (sum_below n g) ≡ capped (sum_below n f)
+capped_sum zero f g h = refl
+capped_sum (suc n) f g h =
+    let a = capped_sum n f g (λ i l. h i (omega arith)) in
+    let b = h n (omega arith) in
+    omega arith
 
 part_within : (n m : ℕ) (f : ℕ → ℕ) → m < n → sum_below m f + f m ≤ sum_below n f
 part_within zero m f h = absurd (omega arith)

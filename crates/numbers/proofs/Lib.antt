@@ -1,3 +1,4 @@
 pub mod Bytes
+pub mod Halves
 pub mod Stores
 pub mod Zeros

@@ -7,7 +7,7 @@ use mathlib.Core.Bool.{Bool, true, false, ◌&&◌}
 use native.Mathlib.Omega.{arith}
 use native.Mathlib.Numerals.{add-one}
 use lib.ListN.{length, get_or, take, drop, replicate}
-use lib.Seq.{drop-cons}
+use lib.Seq.{drop-cons, drop-drop, take-add}
 use lib.Dec.{eqb}
 use borrow.Author.Tests.{eqb-true, eqb-false, eq-eqb, ne_eqb}
 use Rattle.numbers.specs.Numbers.{number, all_zero}
@@ -45,3 +45,8 @@ zero_number (suc w) s at p =
         go true f true g = let a = eqb-true x 0 f in let b = eqb-true y 0 g in eq-eqb (x + 256 * y) 0 (omega arith)
         go true f false g = ne_eqb (x + 256 * y) 0 (λ z. eqb-false y 0 g (omega arith))
         go false f u g = ne_eqb (x + 256 * y) 0 (λ z. eqb-false x 0 f (omega arith))
+
+-- In two numbers one after the other.
+pub zero_numbers : (v w : ℕ) (s : List ℕ) (at : ℕ) → at + v + w ≤ length s → (eqb (number v s at) 0 && eqb (number w s (at + v)) 0) ≡ all_zero (take (v + w) (drop at s))
+zero_numbers v w s at p =
+    rw (zero_number v s at (omega arith), zero_number w s (at + v) p, ← zeros_join, ← drop-drop v at s, ← take-add v w (drop at s))

@@ -8,7 +8,7 @@ use native.Mathlib.Nat.{le-max_left, le-max_right, max-le}
 use native.Mathlib.Decide.{ℕ_discrete}
 use native.Mathlib.Numerals.{add-one}
 use lib.ListN.{length, get_or, take, drop, length-take, length-drop, drop_of_length-le}
-use lib.Seq.{take-suc, take_all}
+use lib.Seq.{drop_at, take-suc, take_all}
 use Rattle.numbers.specs.Numbers.{bytes}
 use Rattle.packing.proofs.Writes.{next_part, as_long}
 use Rattle.look.specs.Look.{look}
@@ -18,6 +18,10 @@ use Rattle.timetable.specs.Bytes.{number_bytes, row_bytes, rows_bytes}
 use Rattle.timetable.proofs.Laws.{length_bytes, bytes_append}
 use Rattle.timetable.proofs.Lists.{length_list}
 use Rattle.rows.specs.Rows.{latest}
+
+-- A part of n bytes from place a on.
+pub part_long : (a n : ℕ) (l : List ℕ) → a + n ≤ length l → length (take (a + n - a) (drop a l)) ≡ n
+part_long a n l h = simp (length-take, length-drop) (omega arith)
 
 pub bytes_one : (r : Row) → rows_bytes (r ∷ []) ≡ row_bytes r
 unfolding rows_bytes
@@ -39,6 +43,13 @@ row_more l r d out ys a hl h y = rows_more l (r ∷ []) d out ys a (a + 16) hl r
 -- Nothing behind the last row.
 pub rows_end : (l : List Row) (d out : List ℕ) (a : ℕ) → length d ≤ a → out ≡ rows_bytes l ++ drop a d → out ≡ rows_bytes l
 rows_end l d out a h e = e ∙ rw (drop_of_length-le d {i = a} h) (append-nil (rows_bytes l))
+
+pub rows_long : (l : List Row) (d out : List ℕ) (a : ℕ) → 16 * length l ≡ a → a ≤ length d → out ≡ rows_bytes l ++ drop a d → length out ≡ length d
+rows_long l d out a h q e = as_long (rows_bytes l) out d a (length_bytes l ∙ h) q e
+
+-- What stands behind the rows may be said of the list itself.
+pub rows_kept : (l : List Row) (d out : List ℕ) (a : ℕ) → 16 * length l ≡ a → out ≡ rows_bytes l ++ drop a d → out ≡ rows_bytes l ++ drop a out
+rows_kept l d out a h e = e ∙ ap (λ (x : List ℕ). rows_bytes l ++ x) (sym (ap (drop a) e ∙ drop_at (rows_bytes l) (drop a d) a (length_bytes l ∙ h)))
 
 pub latest_more : (file : List ℕ) (i p m e : ℕ) → m ≡ latest file i p → e ≡ (look file (i + p)).end → max m e ≡ latest file i (p + 1)
 unfolding latest

@@ -1,6 +1,6 @@
 -- The rows of all components of an accepted file may be handed to `hold`; put into zeros they are what opening leaves.
 -- Assumes nothing.
-use Prim.Native.Nat.{ℕ, zero, suc, ◌-◌, ◌*◌, ◌≤◌}
+use Prim.Native.Nat.{ℕ, zero, suc, ◌+◌, ◌-◌, ◌*◌, ◌≤◌}
 use mathlib.Core.Path.{◌≡◌, refl, sym, ap, ◌∙◌}
 use mathlib.Core.List.{List}
 use native.Mathlib.Omega.{arith}
@@ -11,7 +11,7 @@ use Rattle.signatures.specs.declared.Signature.{Signature}
 use Rattle.entry.specs.Entered.{design}
 use Rattle.look.specs.Listed.{records_of}
 use Rattle.component.specs.declared.Wanted.{Wanted}
-use Rattle.component.specs.Wanted.{in_order, wanted, every_below, Sound, gathered}
+use Rattle.component.specs.Wanted.{in_order, wanted, placed, every_below, Sound, gathered}
 use Rattle.component.proofs.Gathered.{in_order_length}
 use Rattle.verdict.specs.Judgement.{judgement, components_of, kept}
 use Rattle.verdict.specs.Opening.{zeros, opening_rows, Fills}
@@ -35,22 +35,27 @@ module _ (file : List ℕ) (table : List Signature) where
   sound_below zero l = tt
   sound_below (suc n) l = record { below = omega arith; place = omega arith; follows = (refl, l) }
 
-  placed_below : (n : ℕ) → (1 ≤ n → 64 ≤ length table) → IfSome (every_below n) (λ w. (w.place ≡ 0) × (64 ≤ length table))
-  placed_below zero e = tt
-  placed_below (suc n) e = (refl, e (omega arith))
+  enough_below : (n : ℕ) → (1 ≤ n → 64 ≤ length table) → IfSome (every_below n) (λ w. 64 ≤ length table)
+  enough_below zero e = tt
+  enough_below (suc n) e = e (omega arith)
+
+placed_below : (n : ℕ) → placed (every_below n) ≡ 0
+placed_below zero = refl
+placed_below (suc n) = refl
 
 module _ (file : List ℕ) (rows : ℕ) (table : List Signature) (a : Answer Counts) (judges : a ≡ judgement file rows) (first : Option Wanted) (wants : first ≡ every_below (components_of a)) where
-  pub may_hold : length table ≡ rows → IfSome first (Sound file) × IfSome first (λ w. (w.place ≡ 0) × (64 ≤ length table)) × (5 * length (wanted file first) ≤ 320)
+  pub may_hold : length table ≡ rows → IfSome first (Sound file) × IfSome first (λ w. 64 ≤ length table) × (5 * (placed first + length (wanted file first)) ≤ 320)
   may_hold e =
       let n = components_of a in
       let few = few_components file rows a judges in
       let l = few.0 in
       let y : length (wanted file (every_below n)) ≡ n = ap length (all_in_order file n) ∙ in_order_length n 0 in
-      rw wants (sound_below file table n (omega arith), placed_below file table n (λ some. let h = few.1 (omega arith) in omega arith), omega arith)
+      let z = placed_below n in
+      rw wants (sound_below file table n (omega arith), enough_below file table n (λ some. let h = few.1 (omega arith) in omega arith), omega arith)
 
-  pub hands_on : Fills a file (kept table) → gathered (replicate 320 0) table 0 (wanted file first) ≡ opening_rows a file
+  pub hands_on : Fills a file (kept table) → gathered (replicate 320 0) table (placed first) (wanted file first) ≡ opening_rows a file
   unfolding zeros gathered in_order
-  hands_on fills = rw (wants, all_in_order file (components_of a)) (go a judges fills)
+  hands_on fills = rw (wants, placed_below (components_of a), all_in_order file (components_of a)) (go a judges fills)
     where
       go : (b : Answer Counts) → b ≡ judgement file rows → Fills b file (kept table) → gathered (zeros 320) table 0 (in_order (components_of b) 0) ≡ opening_rows b file
       go (accepted k) j f = let s = said_few file rows k (sym j) in rw (sym s.1) (gathers_all (design (records_of file k.records)) table f s.0)

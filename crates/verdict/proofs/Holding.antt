@@ -11,7 +11,7 @@ use Rattle.signatures.specs.declared.Signature.{Signature}
 use Rattle.signatures.specs.Rows.{zero_row}
 use Rattle.reader.specs.Rows.{put_row}
 use Rattle.component.specs.declared.Wanted.{Wanted}
-use Rattle.component.specs.Wanted.{wanted, later, Sound, gathered}
+use Rattle.component.specs.Wanted.{wanted, later, placed, Sound, gathered}
 use Rattle.component.proofs.Rows.{length_put}
 
 module _ (file : List ℕ) (table : List Signature) where
@@ -30,10 +30,18 @@ module _ (file : List ℕ) (table : List Signature) where
     pub fits : IfSome next (Fits (length l))
     pub so_far : filled l next ≡ whole
 
-  pub begins : (rows : List ℕ) (first : Option Wanted) → IfSome first (Sound file) × IfSome first (λ w. (w.place ≡ 0) × (64 ≤ length table)) × (5 * length (wanted file first) ≤ length rows) → Holding (gathered rows table 0 (wanted file first)) first rows
+  pub begins : (rows : List ℕ) (first : Option Wanted) → IfSome first (Sound file) × IfSome first (λ w. 64 ≤ length table) × (5 * (placed first + length (wanted file first)) ≤ length rows) → Holding (gathered rows table (placed first) (wanted file first)) first rows
   unfolding gathered
   begins rows None p = record { fits = tt; so_far = refl }
-  begins rows (Some w) p = let e = p.1.0 in record { fits = record { sound = p.0; enough = p.1.1; room = omega arith }; so_far = rw p.1.0 }
+  begins rows (Some w) p = record { fits = record { sound = p.0; enough = p.1; room = p.2 }; so_far = refl }
+
+  -- Where no row is wanted any more.
+  pub ends : {whole : List ℕ} (next : Option Wanted) (l : List ℕ) → Holding whole next l → next ≡ None → l ≡ whole
+  ends None l h e = h.so_far
+  ends (Some w) l h e = cc
+
+  pub fewer : (w : Wanted) (r : Option Wanted) → wanted file r ≡ later file w → length (wanted file r) < length (wanted file (Some w))
+  fewer w r e = rw e (omega arith)
 
   module _ (w : Wanted) (l : List ℕ) (f : Fits (length l) w) where
     pub in_table : w.component < length table

@@ -2,12 +2,12 @@
 // The functions that hold the table do nothing else; whatever is decided is decided by functions on values.
 #![tactic(auto)]
 
-ghost use Rattle.std.specs.Prelude.{◌≡◌, ℕ, ◌-◌, ◌*◌, ◌/◌, ◌≤◌, ◌<◌, length, replicate, IfSome, IfOk};
+ghost use Rattle.std.specs.Prelude.{◌≡◌, ℕ, ◌+◌, ◌-◌, ◌*◌, ◌/◌, ◌≤◌, ◌<◌, length, replicate, IfSome, IfOk};
 ghost use Rattle.answers.specs.Answer.{answer};
 ghost use Rattle.reading.specs.Reader.{Row};
 ghost use Rattle.signatures.specs.Rows.{zero_row};
 ghost use Rattle.component.specs.Component.{Begins, Read};
-ghost use Rattle.component.specs.Wanted.{wanted, every_below, Sound, gathered};
+ghost use Rattle.component.specs.Wanted.{wanted, placed, every_below, Sound, gathered};
 ghost use Rattle.reader.specs.Rows.{Exact};
 ghost use Rattle.verdict.specs.Judgement.{judgement, components_of, kept, shown, Filled};
 ghost use Rattle.verdict.specs.Opening.{Fills, opening_rows};
@@ -41,8 +41,8 @@ fn all_rows(verdict: Result<Counts, Refusal>) -> Option<Wanted>
 // The rows of the components that are wanted, as numbers.
 #[tactic(auto, using(crate::proofs::Holding::in_table, crate::proofs::Holding::in_rows))]
 fn hold(file: &[u8], table: &[Signature], first: Option<Wanted>, rows: &mut [u16])
-    requires { IfSome first (Sound file.now) × IfSome first (λ w. (w.place ≡ 0) × (64 ≤ length table.now)) × (5 * length (wanted file.now first) ≤ length rows.old) }
-    ensures { rows.new ≡ gathered rows.old table.now 0 (wanted file.now first) }
+    requires { IfSome first (Sound file.now) × IfSome first (λ w. 64 ≤ length table.now) × (5 * (placed first + length (wanted file.now first)) ≤ length rows.old) }
+    ensures { rows.new ≡ gathered rows.old table.now (placed first) (wanted file.now first) }
 {
     let mut next = first;
     while let Some(w) = next {
@@ -123,7 +123,7 @@ pub fn opened(file: &[u8], table: &mut [Signature]) -> Opening
 pub fn open_alone(file: &[u8]) -> Opening
     ensures { (answer result.verdict ≡ judgement file.now 64) × Filled (answer result.verdict) file.now result.rows × (length result.rows ≡ 320) × (result.rows ≡ opening_rows (answer result.verdict) file.now) }
 {
-    let mut table = [Signature::default(); LEAST_ROWS];
+    let mut table = [Signature::default(); 64];
     opened(file, &mut table)
 }
 
