@@ -10,7 +10,7 @@ use places::Place;
 use text::Expected;
 
 // How far a text has been read.
-#[derive(Drop)]
+#[derive(Clone, Drop)]
 pub struct Assembly {
     // the number of the present line, from 1, and its bytes so far
     pub line: u32,

@@ -133,7 +133,7 @@ fn case(rt: &HostRuntime, name: &str) {
     let mut file = [0; 66048];
     // What cannot be opened is judged as an empty file.
     let n = File::open(rt, name).map_or(0, |f| io::read_full(f.as_raw_fd(), &mut file));
-    report::print(STDOUT, |out| write!(out, "{name}\t"));
+    let _ = report::print(STDOUT, |out| write!(out, "{name}\t"));
     report::verdict(STDOUT, verdict::judge_alone(&file[..n]));
 }
 

@@ -1,6 +1,6 @@
 -- What is known of a page without what it prints: the mark of a cell, and how many lines stand on it.
 -- Assumes nothing.
-use Rattle.std.specs.Prelude.{ℕ, suc, min}
+use Rattle.std.specs.Prelude.{ℕ, suc, cond, nat_lt}
 use Rattle.page.specs.declared.glyph.Glyph.{Glyph}
 use Rattle.page.specs.declared.glyph.Glyph.TheVariants.{Free, Number, Own, Several}
 use Rattle.page.specs.declared.glyph.Mark.{Mark}
@@ -15,4 +15,4 @@ mark_of Several = None
 
 -- A line more; the count stays at the last number that two bytes hold.
 abbrev pub one_line_more : ℕ → ℕ
-one_line_more lines = min (suc lines) 65535
+one_line_more lines = cond (nat_lt lines 65535) (suc lines) lines

@@ -7,10 +7,10 @@ pub enum Label {
     // an input or an output of the component itself
     Own(Kind, usize),
     // of an instance: how long it is busy, an input or an output, or that it has no line more
-    Busy(u16),
-    Of(u16, Kind, usize),
-    Unnamed(u16),
-    Unused(u16),
+    Busy(usize),
+    Of(usize, Kind, usize),
+    Unnamed(usize),
+    Unused(usize),
 }
 
 impl Label {

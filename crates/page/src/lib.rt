@@ -1,7 +1,7 @@
 // One line of a picture after the other, on a page: as text in comment lines, or as SVG. (docs/TEXT.md)
 #![tactic(auto)]
 
-ghost use Rattle.std.specs.Prelude.{◌≡◌, OnOk, OnErr};
+ghost use Rattle.std.specs.Prelude.{◌≡◌};
 ghost use Rattle.page.specs.Page.{one_line_more};
 
 mod glyph;
@@ -13,6 +13,7 @@ use cells::{Cell, Line};
 use glyph::{Glyph, Mark};
 pub use label::Label;
 use parts::{Interval, Use};
+use pieces::Output;
 use std::fmt;
 pub use svg::Svg;
 pub use text::Text;
@@ -21,8 +22,8 @@ pub use text::Text;
 #[derive(Clone, Copy)]
 pub struct View {
     pub component: usize,
-    pub delay: u16,
-    pub cycles: u16,
+    pub delay: usize,
+    pub cycles: usize,
 }
 
 // The title.
@@ -63,9 +64,8 @@ impl Row<'_> {
         matches!(there.get(j), Some(interval) if !interval.holds(t))
     }
 
-    fn glyph(self, cycle: u16) -> Glyph {
+    fn glyph(self, t: usize) -> Glyph {
         let uses = self.uses;
-        let t = usize::from(cycle);
         match self.line.cell_at(uses, t) {
             Cell::Free => Glyph::Free,
             Cell::First(j) if self.misses(j, t) => self.used(j, Mark::Missing),
@@ -79,20 +79,20 @@ impl Row<'_> {
 // A way to draw the lines of a picture, one after the other.
 pub trait Sheet: Drop {
     // What stands above the lines, of which there will be so many.
-    fn open<W: fmt::Write>(&self, out: &mut W, view: View, lines: u16) -> fmt::Result;
+    fn open<W: fmt::Write>(&self, out: &mut W, view: View, lines: usize) -> fmt::Result;
 
     // A line with cells, below so many others.
     fn row<W: fmt::Write>(
         &self,
         out: &mut W,
         view: View,
-        above: u16,
+        above: usize,
         label: Label,
         row: Row<'_>,
     ) -> fmt::Result;
 
     // A line without cells.
-    fn note<W: fmt::Write>(&self, out: &mut W, above: u16, label: Label) -> fmt::Result;
+    fn note<W: fmt::Write>(&self, out: &mut W, above: usize, label: Label) -> fmt::Result;
 
     // What stands below the lines.
     fn close<W: fmt::Write>(&self, out: &mut W) -> fmt::Result;
@@ -103,7 +103,7 @@ pub trait Sheet: Drop {
 pub struct Count;
 
 impl Sheet for Count {
-    fn open<W: fmt::Write>(&self, _out: &mut W, _view: View, _lines: u16) -> fmt::Result {
+    fn open<W: fmt::Write>(&self, _out: &mut W, _view: View, _lines: usize) -> fmt::Result {
         Ok(())
     }
 
@@ -111,14 +111,14 @@ impl Sheet for Count {
         &self,
         _out: &mut W,
         _view: View,
-        _above: u16,
+        _above: usize,
         _label: Label,
         _row: Row<'_>,
     ) -> fmt::Result {
         Ok(())
     }
 
-    fn note<W: fmt::Write>(&self, _out: &mut W, _above: u16, _label: Label) -> fmt::Result {
+    fn note<W: fmt::Write>(&self, _out: &mut W, _above: usize, _label: Label) -> fmt::Result {
         Ok(())
     }
 
@@ -128,39 +128,45 @@ impl Sheet for Count {
 }
 
 // A sheet, what is drawn on it, and how many lines stand there.
-#[derive(Drop)]
+#[derive(Clone, Copy, Drop)]
 pub struct Page<S> {
     pub sheet: S,
     pub view: View,
-    pub lines: u16,
+    pub lines: usize,
 }
 
+// An output takes every text, so that drawing on it cannot fail.
 impl<S: Sheet> Page<S> {
-    pub fn open<W: fmt::Write>(&self, out: &mut W, lines: u16) -> fmt::Result {
-        self.sheet.open(out, self.view, lines)
-    }
-
-    pub fn row<W: fmt::Write>(&mut self, out: &mut W, label: Label, row: Row<'_>) -> fmt::Result
-        ensures ok { OnOk result (self.new.lines ≡ one_line_more self.old.lines) }
-        ensures err { OnErr result (self.new.lines ≡ self.old.lines) }
+    fn next_line(&mut self)
+        ensures lines { self.new.lines ≡ one_line_more self.old.lines }
         ensures kept { (self.new.sheet ≡ self.old.sheet) × (self.new.view ≡ self.old.view) }
     {
-        self.sheet.row(out, self.view, self.lines, label, row)?;
-        self.lines = self.lines.saturating_add(1);
-        Ok(())
+        if self.lines < 65535 {
+            self.lines += 1;
+        }
     }
 
-    pub fn note<W: fmt::Write>(&mut self, out: &mut W, label: Label) -> fmt::Result
-        ensures ok { OnOk result (self.new.lines ≡ one_line_more self.old.lines) }
-        ensures err { OnErr result (self.new.lines ≡ self.old.lines) }
+    pub fn open(&self, out: &mut Output, lines: usize) {
+        let _ = self.sheet.open(out, self.view, lines);
+    }
+
+    pub fn row(&mut self, out: &mut Output, label: Label, row: Row<'_>)
+        ensures lines { self.new.lines ≡ one_line_more self.old.lines }
         ensures kept { (self.new.sheet ≡ self.old.sheet) × (self.new.view ≡ self.old.view) }
     {
-        self.sheet.note(out, self.lines, label)?;
-        self.lines = self.lines.saturating_add(1);
-        Ok(())
+        let _ = self.sheet.row(out, self.view, self.lines, label, row);
+        self.next_line();
     }
 
-    pub fn close<W: fmt::Write>(&self, out: &mut W) -> fmt::Result {
-        self.sheet.close(out)
+    pub fn note(&mut self, out: &mut Output, label: Label)
+        ensures lines { self.new.lines ≡ one_line_more self.old.lines }
+        ensures kept { (self.new.sheet ≡ self.old.sheet) × (self.new.view ≡ self.old.view) }
+    {
+        let _ = self.sheet.note(out, self.lines, label);
+        self.next_line();
+    }
+
+    pub fn close(&self, out: &mut Output) {
+        let _ = self.sheet.close(out);
     }
 }

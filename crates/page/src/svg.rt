@@ -5,18 +5,22 @@ use crate::glyph::{Glyph, Mark};
 use crate::{Label, Row, Sheet, View};
 use std::fmt;
 
-// The left edge of a cycle. Its bound is what the sums of `cell`, `tick` and `open` need; so is that of `top_of`.
-fn left_of(t: u16) -> u32
+// No page goes on behind this cycle.
+const MOST_CYCLES: usize = 4096;
+
+// The left edge of a cycle; 0 for one that no page has. Its bound is what the sums of `cell`, `tick` and `open` need; so is that of
+// `top_of`.
+fn left_of(t: usize) -> usize
     ensures { result ≤ 1704080 }
 {
-    170 + 26 * u32::from(t)
+    if t < 65536 { 170 + 26 * t } else { 0 }
 }
 
-// The upper edge of a line, below the title and the cycles' numbers.
-fn top_of(line: u16) -> u32
+// The upper edge of a line, below the title and the cycles' numbers; 0 for one that no page has.
+fn top_of(line: usize) -> usize
     ensures { result ≤ 1310744 }
 {
-    44 + 20 * u32::from(line)
+    if line < 65536 { 44 + 20 * line } else { 0 }
 }
 
 // Blue for the first start, grey for the next, red where two meet or what is read is not there.
@@ -28,7 +32,7 @@ fn colour(glyph: Glyph) -> &'static str {
     }
 }
 
-fn cell<W: fmt::Write>(out: &mut W, glyph: Glyph, t: u16, line: u16) -> fmt::Result {
+fn cell<W: fmt::Write>(out: &mut W, glyph: Glyph, t: usize, line: usize) -> fmt::Result {
     let x = left_of(t);
     let y = top_of(line);
     let fill = colour(glyph);
@@ -42,7 +46,7 @@ fn cell<W: fmt::Write>(out: &mut W, glyph: Glyph, t: u16, line: u16) -> fmt::Res
 }
 
 // The number of a cycle, and a line down from it.
-fn tick<W: fmt::Write>(out: &mut W, t: u16, bottom: u32) -> fmt::Result {
+fn tick<W: fmt::Write>(out: &mut W, t: usize, bottom: usize) -> fmt::Result {
     let left = left_of(t);
     let x = left + 3;
     writeln!(
@@ -55,7 +59,7 @@ fn tick<W: fmt::Write>(out: &mut W, t: u16, bottom: u32) -> fmt::Result {
 pub struct Svg;
 
 impl Sheet for Svg {
-    fn open<W: fmt::Write>(&self, out: &mut W, view: View, lines: u16) -> fmt::Result {
+    fn open<W: fmt::Write>(&self, out: &mut W, view: View, lines: usize) -> fmt::Result {
         let bottom = top_of(lines);
         let width = (left_of(view.cycles) + 10).max(420);
         let height = bottom + 10;
@@ -66,7 +70,7 @@ impl Sheet for Svg {
         out.write_str("<rect width=\"100%\" height=\"100%\" fill=\"#ffffff\"/>\n")?;
         writeln!(out, "<text x=\"6\" y=\"18\">{view}</text>")?;
         out.write_str("<text x=\"6\" y=\"38\">cycle</text>\n")?;
-        for t in 0..view.cycles {
+        for t in 0..view.cycles.min(MOST_CYCLES) {
             tick(out, t, bottom)?;
         }
         Ok(())
@@ -76,12 +80,12 @@ impl Sheet for Svg {
         &self,
         out: &mut W,
         view: View,
-        above: u16,
+        above: usize,
         label: Label,
         row: Row<'_>,
     ) -> fmt::Result {
         self.note(out, above, label)?;
-        for t in 0..view.cycles {
+        for t in 0..view.cycles.min(MOST_CYCLES) {
             let glyph = row.glyph(t);
             if glyph != Glyph::Free {
                 cell(out, glyph, t, above)?;
@@ -90,7 +94,7 @@ impl Sheet for Svg {
         Ok(())
     }
 
-    fn note<W: fmt::Write>(&self, out: &mut W, above: u16, label: Label) -> fmt::Result {
+    fn note<W: fmt::Write>(&self, out: &mut W, above: usize, label: Label) -> fmt::Result {
         let y = top_of(above) + 12;
         writeln!(out, "<text x=\"6\" y=\"{y}\">{label}</text>")
     }

@@ -19,8 +19,8 @@ fn columns<W: fmt::Write>(out: &mut W, glyphs: &[Glyph]) -> fmt::Result {
 }
 
 // The first cycles, of which there are at most 32.
-fn seen(glyphs: &[Glyph; 32], cycles: u16) -> &[Glyph] {
-    &glyphs[..usize::from(cycles).min(32)]
+fn seen(glyphs: &[Glyph; 32], cycles: usize) -> &[Glyph] {
+    &glyphs[..cycles.min(32)]
 }
 
 // A kind stands in six columns and a number in two.
@@ -43,7 +43,7 @@ fn margin(label: Label) -> &'static str {
 pub struct Text;
 
 impl Sheet for Text {
-    fn open<W: fmt::Write>(&self, out: &mut W, view: View, _lines: u16) -> fmt::Result {
+    fn open<W: fmt::Write>(&self, out: &mut W, view: View, _lines: usize) -> fmt::Result {
         let cycles = view.cycles;
         write!(out, "#\n#  {view}")?;
         if cycles > 32 {
@@ -58,7 +58,7 @@ impl Sheet for Text {
         &self,
         out: &mut W,
         view: View,
-        _above: u16,
+        _above: usize,
         label: Label,
         row: Row<'_>,
     ) -> fmt::Result {
@@ -71,7 +71,7 @@ impl Sheet for Text {
         columns(out, seen(&glyphs, view.cycles))
     }
 
-    fn note<W: fmt::Write>(&self, out: &mut W, _above: u16, label: Label) -> fmt::Result {
+    fn note<W: fmt::Write>(&self, out: &mut W, _above: usize, label: Label) -> fmt::Result {
         name(out, label)?;
         out.write_str("\n")
     }

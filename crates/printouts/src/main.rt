@@ -2,8 +2,8 @@
 // It would catch a row, a source or a unit that is not the right one, a limit that is off by one, a count that wraps, and an expansion that never ends.
 #![tactic(auto)]
 
+use pieces::Output;
 use report::STDOUT;
-use std::fmt;
 use std::fmt::Write;
 use std::fs::File;
 use std::os::fd::AsRawFd;
@@ -38,18 +38,18 @@ const PRINTOUTS: [(&str, Printed); 17] = [
 ];
 
 // How many starts the last component has.
-fn count<W: fmt::Write>(out: &mut W, file: &[u8]) -> fmt::Result {
+fn count(out: &mut Output, file: &[u8]) {
     let o = verdict::open_alone(file);
     let starts = match o.verdict {
         // A file with no component has no last one.
-        Ok(counts) if counts.components == 0 => return Ok(()),
+        Ok(counts) if counts.components == 0 => return,
         Ok(counts) => listing::list_judged(file, o, counts.components - 1, &mut [0; 32768]),
         Err(r) => Err(r),
     };
-    match starts {
+    let _ = match starts {
         Ok(n) => writeln!(out, "starts {n}"),
         Err(r) => writeln!(out, "{r}"),
-    }
+    };
 }
 
 fn printout(rt: &HostRuntime, name: &str, what: Printed) {
@@ -58,7 +58,7 @@ fn printout(rt: &HostRuntime, name: &str, what: Printed) {
     let n = File::open(rt, name).map_or(0, |f| io::read_full(f.as_raw_fd(), &mut file));
     let file = &file[..n];
     report::print(STDOUT, |out| {
-        writeln!(out, "{name}")?;
+        let _ = writeln!(out, "{name}");
         match what {
             Printed::Rows => printed::lowered(out, file),
             Printed::Starts => printed::last_listed(out, file),

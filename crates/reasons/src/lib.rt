@@ -8,6 +8,7 @@ mod standing;
 
 use answers::{Fault, Refusal};
 use parts::{Interval, List};
+use pieces::Output;
 use records::{Port, Record, Source};
 use sources::Named;
 use standing::Standing;
@@ -76,11 +77,9 @@ fn interval<W: fmt::Write>(out: &mut W, s: Standing<'_>) -> fmt::Result {
     )
 }
 
-// The sentence for the refusal of a file of so many bytes, whose record list is given where its blocks pass.
-pub fn reason<W: fmt::Write>(out: &mut W, bytes: usize, list: &[u8], r: Refusal) -> fmt::Result {
-    let list = List::of(list);
+// Where the record stands is looked for by the rules alone that look at other records: it takes a walk over all before it.
+fn sentence<W: fmt::Write>(out: &mut W, bytes: usize, list: List<'_>, r: Refusal) -> fmt::Result {
     let p = r.position;
-    let s = Standing::of(list, p);
     match r.fault {
         Fault::Length => write!(
             out,
@@ -102,29 +101,35 @@ pub fn reason<W: fmt::Write>(out: &mut W, bytes: usize, list: &[u8], r: Refusal)
         Fault::TooMany => too_many(out, list, p),
         Fault::Reference => {
             write!(out, "record {p}: ")?;
-            reference(out, s)
+            reference(out, Standing::of(list, p))
         }
         Fault::Width => {
             write!(out, "record {p}: ")?;
-            sources::widths(out, s)
+            sources::widths(out, Standing::of(list, p))
         }
         Fault::Interval => {
             write!(out, "record {p}: ")?;
-            interval(out, s)
+            interval(out, Standing::of(list, p))
         }
         Fault::Spacing => {
             write!(out, "record {p}: ")?;
-            pairs::spacing(out, s)
+            pairs::spacing(out, Standing::of(list, p))
         }
         Fault::Span => {
             write!(out, "record {p}: ")?;
-            pairs::span(out, s)
+            pairs::span(out, Standing::of(list, p))
         }
         // a file is refused for none of the last two
         Fault::Reading | Fault::Room | Fault::Absent => {
             write!(out, "record {p}: ")?;
-            sources::reading(out, s)
+            sources::reading(out, Standing::of(list, p))
         }
     }?;
     out.write_str("\n")
+}
+
+// The sentence for the refusal of a file of so many bytes, whose record list is given where its blocks pass.
+pub fn reason(out: &mut Output, bytes: usize, list: &[u8], r: Refusal) {
+    // An output takes every text, so there is nothing to answer for.
+    let _ = sentence(out, bytes, List::of(list), r);
 }

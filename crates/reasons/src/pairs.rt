@@ -5,6 +5,13 @@ use crate::standing::Standing;
 use parts::Use;
 use std::fmt;
 
+// What is said of an invocation that is not there, in a list whose verdict is another one.
+const ABSENT: Use = Use {
+    instance: 65535,
+    offset: 0,
+    record: 65535,
+};
+
 // The first earlier use of the same instance, of the first 64, that is so far apart that it breaks the rule.
 fn other_use<F: Fn(u16) -> bool>(s: Standing<'_>, own: Use, breaks: F) -> Option<Use>
     requires { (gap : ℕ) → F.pre breaks gap }
@@ -46,9 +53,7 @@ fn delay_of(s: Standing<'_>, own: Use) -> u16 {
 
 // 10
 pub(crate) fn spacing<W: fmt::Write>(out: &mut W, s: Standing<'_>) -> fmt::Result {
-    let Some(own) = s.call() else {
-        return Ok(());
-    };
+    let own = s.call().unwrap_or(ABSENT);
     let d = delay_of(s, own);
     pair(out, own, other_use(s, own, |gap| gap < d))?;
     write!(out, ": less than its delay {d} apart")
@@ -56,9 +61,7 @@ pub(crate) fn spacing<W: fmt::Write>(out: &mut W, s: Standing<'_>) -> fmt::Resul
 
 // 11
 pub(crate) fn span<W: fmt::Write>(out: &mut W, s: Standing<'_>) -> fmt::Result {
-    let Some(own) = s.call() else {
-        return Ok(());
-    };
+    let own = s.call().unwrap_or(ABSENT);
     let d = delay_of(s, own);
     let delay = s.delay();
     let component = s.number;

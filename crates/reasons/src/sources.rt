@@ -46,12 +46,21 @@ fn required(s: Standing<'_>) -> Interval {
     Interval::of(s.asked().unwrap_or_default(), offset)
 }
 
+// When the source is there: an absent port is nowhere there, from its invocation on.
+fn available(s: Standing<'_>) -> Interval {
+    match s.source() {
+        None => Interval::NEVER,
+        Some(Source::Constant(_)) => Interval::ALWAYS,
+        Some(source) => Interval::of(
+            s.given(source).unwrap_or_default(),
+            s.offset_of(source).unwrap_or(0),
+        ),
+    }
+}
+
 // 12
 pub(crate) fn reading<W: fmt::Write>(out: &mut W, s: Standing<'_>) -> fmt::Result {
-    let there = match (s.component, s.source()) {
-        (Some(component), Some(source)) => component.available(source),
-        _ => Interval::NEVER,
-    };
+    let there = available(s);
     let required = required(s);
     if let Some(source) = s.source() {
         let name = Named(source);

@@ -15,9 +15,11 @@ pub struct Standing<'a> {
 
 // How many of the records from one up to another are of a kind, and the last of them.
 fn counted(list: List<'_>, from: usize, upto: usize, kind: Kind) -> (usize, Option<usize>) {
-    let count = (from..upto).filter(|i| list.kind(*i) == Some(kind)).count();
-    let last = (from..upto).filter(|i| list.kind(*i) == Some(kind)).last();
-    (count, last)
+    (from..upto)
+        .filter(|i| list.kind(*i) == Some(kind))
+        .fold((0, None), |(count, _): (usize, Option<usize>), i| {
+            (count.saturating_add(1), Some(i))
+        })
 }
 
 impl<'a> Standing<'a> {
@@ -69,6 +71,14 @@ impl<'a> Standing<'a> {
         let component = self.component?;
         let u = component.invocation(j)?;
         component.named(usize::from(u.instance))
+    }
+
+    // The offset of the invocation whose output a source is.
+    pub(crate) fn offset_of(self, s: Source) -> Option<u16> {
+        match s {
+            Source::Output(j, _) => Some(self.component?.invocation(usize::from(j))?.offset),
+            _ => None,
+        }
     }
 
     // What a source gives.

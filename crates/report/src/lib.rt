@@ -8,7 +8,6 @@ ghost use Rattle.pieces.specs.Gathered.{Holds};
 
 use answers::{Counts, Refusal};
 use pieces::Output;
-use std::fmt;
 use std::fmt::Write;
 
 // The numbers under which a program finds its input and its outputs open.
@@ -30,27 +29,30 @@ pub fn on_input<R, F: FnOnce(&[u8]) -> R>(f: F) -> R
 }
 
 // What is printed goes to one stream, in as few parts as it has room for.
-pub fn print<F: FnOnce(&mut Output) -> fmt::Result>(fd: i32, f: F)
+pub fn print<R, F: FnOnce(&mut Output) -> R>(fd: i32, f: F) -> R
     requires { F.IsAlwaysCallable f }
-    ensures { (fresh : Output) × (last : Output) × (r : _) × Holds fd [] fresh × FnOnceReturnsAtMut F.FnOnce f fresh r last }
+    ensures { (fresh : Output) × (last : Output) × Holds fd [] fresh × FnOnceReturnsAtMut F.FnOnce f fresh result last }
 {
     let mut out = Output::to(fd);
-    // An output takes every text, so there is nothing to answer for.
-    let _ = f(&mut out);
+    let result = f(&mut out);
     out.end();
+    result
 }
 
 // "A refusal prints only `refused 11 at 12`, with its numbers."
 pub fn refusal(fd: i32, r: Refusal) {
-    print(fd, |out| writeln!(out, "{r}"));
+    // An output takes every text, so there is nothing to answer for.
+    let _ = print(fd, |out| writeln!(out, "{r}"));
 }
 
 // `accepted`, the component and record counts; or the refusal.
 pub fn verdict(fd: i32, v: Result<Counts, Refusal>) {
     match v {
-        Ok(counts) => print(fd, |out| {
-            writeln!(out, "accepted {} {}", counts.components, counts.records)
-        }),
+        Ok(counts) => {
+            let _ = print(fd, |out| {
+                writeln!(out, "accepted {} {}", counts.components, counts.records)
+            });
+        }
         Err(r) => refusal(fd, r),
     }
 }

@@ -4,9 +4,9 @@
 #![tactic(auto)]
 
 use answers::{Fault, Refusal};
+use pieces::Output;
 use report::{STDERR, STDOUT};
 use std::env::Env;
-use std::fmt;
 use std::fmt::Write;
 use words::arguments;
 
@@ -43,17 +43,18 @@ fn what_is_asked(rt: &impl Env) -> Result<Asked, Misuse> {
     Ok(Asked::Svg(Some(c)))
 }
 
-fn text<W: fmt::Write>(out: &mut W, list: &[u8]) -> fmt::Result {
-    shown::list(out, list)?;
-    picture::components(out, list)
+fn text(out: &mut Output, list: &[u8]) {
+    shown::list(out, list);
+    picture::components(out, list);
 }
 
-fn svg<W: fmt::Write>(out: &mut W, list: &[u8], c: usize) -> fmt::Result {
-    if picture::svg(out, list, c)? {
-        return Ok(());
+fn svg(out: &mut Output, list: &[u8], c: usize) {
+    if picture::svg(out, list, c) {
+        return;
     }
     let absent = Refusal::at(Fault::Absent, c);
-    writeln!(out, "{absent}")
+    // An output takes every text, so there is nothing to answer for.
+    let _ = writeln!(out, "{absent}");
 }
 
 // The list as it is asked for.
@@ -61,7 +62,7 @@ fn answer(list: &[u8], asked: Result<Asked, Misuse>) {
     match asked {
         Ok(Asked::Text) => report::print(STDOUT, |out| text(out, list)),
         Ok(Asked::Svg(c)) => {
-            let c = c.map_or(parts::last(list), |c| c as usize);
+            let c = c.map_or_else(|| parts::last(list), |c| c as usize);
             report::print(STDOUT, |out| svg(out, list, c));
         }
         Err(Misuse) => {

@@ -5,8 +5,7 @@ use Rattle.report.proofs.print.Goals as goal
 pub returns : goal.returns
 returns g c = (
   c.to-out.result,
-  c.f.new.arg2,
-  c.f.result,
+  c.f-result.new.arg2,
   search rules,
-  record { shown = _; shows = refl; left = _; met = c.f.ensures; leaves = refl },
+  record { shown = _; shows = refl; left = _; met = c.f-result.ensures; leaves = refl },
 )
