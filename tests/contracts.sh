@@ -67,7 +67,7 @@ says() {
 }
 
 fresh
-if ! sh "$room/tools/contracts" >"$room/out" 2>&1 || [ "$(cat "$room/out")" != 'contracts: 4 public functions, 2 without ensures, 1 with a requires, each with its ground' ]; then
+if ! sh "$room/tools/contracts" >"$room/out" 2>&1 || [ "$(cat "$room/out")" != 'contracts: 4 public functions and such types, 2 without ensures, 1 with a requires, each with its ground' ]; then
     echo "contracts: crates that agree with their lists: said '$(cat "$room/out")'" >&2
     failed=1
 fi
@@ -92,6 +92,37 @@ pub trait Told: Drop {
 }
 TEXT
 says "a public trait's method that promises nothing" 'crates/one/src/part.rt:8: one::part::Told::told is without ensures, and tools/without-ensures.txt has no ground for it'
+cat >>"$room/crates/one/src/part.rt" <<'TEXT'
+
+#[derive(Clone, Copy)]
+pub struct Asking<'a> {
+    pub few: &'a [u8],
+    ghost small: { length few.now ≤ 4 },
+}
+
+pub struct Plain {
+    few: u8,
+}
+TEXT
+says 'a type that asks' 'crates/one/src/part.rt:8: one::part::Asking has a requires, and tools/with-requires.txt has no ground for it'
+cat >>"$room/crates/one/src/part.rt" <<'TEXT'
+
+pub enum Shown<'a> {
+    One(&'a u8),
+}
+
+struct Inner;
+
+impl fmt::Display for Inner {
+}
+
+impl fmt::Display for Shown<'_> {
+    fn fmt<W: fmt::Write>(&self, f: &mut fmt::Formatter<W>) -> fmt::Result {
+        Ok(())
+    }
+}
+TEXT
+says 'a type that is printed, and promises nothing of it' 'crates/one/src/part.rt:16: one::part::Shown::fmt is without ensures, and tools/without-ensures.txt has no ground for it'
 sed 's/pub fn prints/fn prints/' "$room/crates/one/src/lib.rt" >"$room/changed" && mv "$room/changed" "$room/crates/one/src/lib.rt"
 says 'a function that is gone' 'tools/without-ensures.txt:2: one::prints: no public function of that name is without ensures any more: take the line out'
 rm "$room/crates/one/src/part.rt"
