@@ -14,6 +14,11 @@ use Rattle.component.specs.declared.Wanted.{Wanted}
 use Rattle.component.specs.Wanted.{wanted, later, placed, Sound, gathered}
 use Rattle.component.proofs.Rows.{length_put}
 
+-- A first row that goes to place 0 names that place; beside it stands what else is known of it.
+pub at_zero : (first : Option Wanted) (A : Type 0) → IfSome first (λ w. (w.place ≡ 0) × A) → (placed first ≡ 0) × IfSome first (λ w. A)
+at_zero None A p = (refl, tt)
+at_zero (Some w) A p = p
+
 module _ (file : List ℕ) (table : List Signature) where
   -- The row that is wanted next, and all after it, put into the numbers.
   abbrev pub filled : List ℕ → Option Wanted → List ℕ
@@ -30,10 +35,18 @@ module _ (file : List ℕ) (table : List Signature) where
     pub fits : IfSome next (Fits (length l))
     pub so_far : filled l next ≡ whole
 
-  pub begins : (rows : List ℕ) (first : Option Wanted) → IfSome first (Sound file) × IfSome first (λ w. 64 ≤ length table) × (5 * (placed first + length (wanted file first)) ≤ length rows) → Holding (gathered rows table (placed first) (wanted file first)) first rows
+  -- Before the first turn: whatever place the first row goes to.
+  pub begins_placed : (rows : List ℕ) (first : Option Wanted) → IfSome first (Sound file) × IfSome first (λ w. 64 ≤ length table) × (5 * (placed first + length (wanted file first)) ≤ length rows) → Holding (gathered rows table (placed first) (wanted file first)) first rows
   unfolding gathered
-  begins rows None p = record { fits = tt; so_far = refl }
-  begins rows (Some w) p = record { fits = record { sound = p.0; enough = p.1; room = p.2 }; so_far = refl }
+  begins_placed rows None p = record { fits = tt; so_far = refl }
+  begins_placed rows (Some w) p = record { fits = record { sound = p.0; enough = p.1; room = p.2 }; so_far = refl }
+
+  -- And where it goes to place 0.
+  pub begins : (rows : List ℕ) (first : Option Wanted) → IfSome first (Sound file) × IfSome first (λ w. (w.place ≡ 0) × (64 ≤ length table)) × (5 * length (wanted file first) ≤ length rows) → Holding (gathered rows table 0 (wanted file first)) first rows
+  begins rows first p =
+      let z = at_zero first (64 ≤ length table) p.1 in
+      let e = z.0 in
+      rw z.0 at (begins_placed rows first (p.0, z.1, omega arith))
 
   -- Where no row is wanted any more.
   pub ends : {whole : List ℕ} (next : Option Wanted) (l : List ℕ) → Holding whole next l → next ≡ None → l ≡ whole

@@ -1,9 +1,9 @@
 -- Each turn carries `Holding` on.
-use Rattle.verdict.proofs.Holding.{begins, goes_on}
+use Rattle.verdict.proofs.Holding.{begins_placed, goes_on}
 use Rattle.verdict.proofs.hold.Goals as goal
 
 pub loop-next-init : goal.loop-next-init
-loop-next-init c = begins c.args.file.now c.args.table.now c.args.rows.now c.args.first c.requires
+loop-next-init c = begins_placed c.args.file.now c.args.table.now c.args.rows.now c.args.first c.requires
 
 pub loop-next-preserved : goal.loop-next-preserved
 loop-next-preserved c =
