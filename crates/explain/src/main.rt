@@ -8,7 +8,10 @@ fn answer(file: &[u8]) {
         // It stays zeros, which are no records, where the blocks do not pass.
         let mut list = [0; 63488];
         let _ = packing::unpack(file, &mut list);
-        report::print(STDOUT, |out| reasons::reason(out, file.len(), &list, r));
+        report::print(
+            STDOUT,
+            |out| reasons::print_reason(out, file.len(), &list, r),
+        );
     }
 }
 

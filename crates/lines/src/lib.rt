@@ -1,11 +1,15 @@
 // The lines that `lower` and `list` print: the words of document 01 and the user's numbers.
+// Here any writer takes them, and may refuse; `output` has the same for an output, which takes every text.
 #![tactic(auto)]
 
 ghost use Rattle.std.specs.Prelude.{◌≤◌, ◌≡◌, length};
 
+mod output;
+
 use numbers::Number;
-use pieces::Output;
+pub use output::{print_lowered_rows, print_started_rows};
 use records::Source;
+use std::fmt;
 use std::fmt::Write;
 
 // A control row of a component, which was lowered from the file.
@@ -29,105 +33,96 @@ fn source_in(bytes: &[u8]) -> Source
 }
 
 impl ControlRow<'_> {
-    // Number i of the row, behind a space. It is written out where it is called, like those of the output, and so is `source`.
-    #[inline(always)]
-    fn number(&self, out: &mut Output, i: usize)
+    // Number i of the row.
+    fn number(&self, i: usize) -> u16
         requires { i ≤ 7 }
     {
         let bytes = self.bytes;
-        out.text(" ");
-        out.short_number(u16::read(bytes, 2 * i));
+        u16::read(bytes, 2 * i)
     }
 
     // The source in the record that the row names: of an input its argument, of an output its connection.
-    #[inline(always)]
-    fn source(&self, out: &mut Output, record: u16) {
+    fn source<W: fmt::Write>(&self, f: &mut fmt::Formatter<W>, record: u16) -> fmt::Result {
         let place = look::place_of(usize::from(record));
-        if let Some(bytes) = self.file.get(place..place + 16) {
-            out.text(" ");
-            out.source(source_in(bytes));
+        match self.file.get(place..place + 16) {
+            Some(bytes) => write!(f, " {}", source_in(bytes)),
+            None => Ok(()),
         }
     }
+}
 
-    fn put(&self, out: &mut Output) {
-        let bytes = self.bytes;
-        out.line();
+impl fmt::Display for ControlRow<'_> {
+    fn fmt<W: fmt::Write>(&self, f: &mut fmt::Formatter<W>) -> fmt::Result {
+        let x = self.number(1);
+        let y = self.number(2);
+        let z = self.number(3);
+        let w = self.number(4);
         // The kinds as document 01 numbers them, as they stand in the row: read back into a `rows::Row` they would only be matched once more.
-        match bytes[0] {
-            1 => {
-                let _ = write!(out, "component {} delay", self.component);
-                self.number(out, 1);
-                out.text(" states");
-                self.number(out, 2);
-            }
-            2 => {
-                out.text("go");
-                self.number(out, 1);
-                self.number(out, 2);
-                self.number(out, 3);
-            }
+        match self.bytes[0] {
+            1 => write!(f, "component {} delay {x} states {y}", self.component),
+            2 => write!(f, "go {x} {y} {z}"),
             3 => {
-                out.text("in");
-                self.number(out, 1);
-                self.number(out, 2);
-                self.number(out, 3);
-                self.number(out, 4);
-                self.source(out, u16::read(bytes, 10));
+                write!(f, "in {x} {y} {z} {w}")?;
+                self.source(f, self.number(5))
             }
-            kind => {
-                out.text("out");
-                self.number(out, 1);
-                // Lowering writes no row of kind 0.
-                if kind != 0 {
-                    self.source(out, u16::read(bytes, 4));
-                }
+            // Lowering writes no row of kind 0.
+            0 => write!(f, "out {x}"),
+            _ => {
+                write!(f, "out {x}")?;
+                self.source(f, y)
             }
         }
-        out.text("\n");
     }
 }
 
 // A row of the flat listing: the cycle in four bytes, the unit and the component in two each.
-fn put_start(out: &mut Output, bytes: &[u8; 8]) {
-    let cycle = u32::read(bytes, 0);
-    let unit = u16::read(bytes, 4);
-    let component = u16::read(bytes, 6);
-    out.line();
-    match u16::try_from(cycle) {
-        Ok(cycle) => {
-            out.text("start ");
-            out.short_number(cycle);
-            out.text(" ");
-            out.short_number(unit);
-            out.text(" ");
-            out.short_number(component);
-            out.text("\n");
-        }
-        // so late a cycle is rare
-        Err(_) => {
-            let _ = writeln!(out, "start {cycle} {unit} {component}");
-        }
+#[derive(Clone, Copy)]
+struct Start<'a> {
+    bytes: &'a [u8; 8],
+}
+
+impl fmt::Display for Start<'_> {
+    fn fmt<W: fmt::Write>(&self, f: &mut fmt::Formatter<W>) -> fmt::Result {
+        let bytes = self.bytes;
+        write!(
+            f,
+            "start {} {} {}",
+            u32::read(bytes, 0),
+            u16::read(bytes, 4),
+            u16::read(bytes, 6)
+        )
     }
 }
 
 // The first k rows of component c, or as many as there are.
-pub fn lowered_rows(out: &mut Output, file: &[u8], component: usize, rows: &[u8], k: usize) {
+pub fn lowered_rows<W: fmt::Write>(
+    out: &mut W,
+    file: &[u8],
+    component: usize,
+    rows: &[u8],
+    k: usize,
+) -> fmt::Result {
     let (rows, _) = rows.as_chunks::<16>();
     for bytes in rows.iter().take(k) {
-        let row = ControlRow {
-            file,
-            component,
-            bytes,
-        };
-        row.put(out);
+        writeln!(
+            out,
+            "{}",
+            ControlRow {
+                file,
+                component,
+                bytes
+            }
+        )?;
     }
+    Ok(())
 }
 
 // The first k rows of a flat listing, or as many as there are. One loop for both kinds of rows would take what makes a row of its
 // bytes, and is longer than the two.
-pub fn started_rows(out: &mut Output, rows: &[u8], k: usize) {
+pub fn started_rows<W: fmt::Write>(out: &mut W, rows: &[u8], k: usize) -> fmt::Result {
     let (rows, _) = rows.as_chunks::<8>();
     for bytes in rows.iter().take(k) {
-        put_start(out, bytes);
+        writeln!(out, "{}", Start { bytes })?;
     }
+    Ok(())
 }

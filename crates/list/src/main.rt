@@ -27,8 +27,8 @@ fn main(rt: HostRuntime) {
     match asked(&rt) {
         Ok(c) => report::on_input(|file| {
             report::print(STDOUT, |out| match c {
-                Some(c) => printed::listed(out, file, c as usize),
-                None => printed::last_listed(out, file),
+                Some(c) => printed::print_listed(out, file, c as usize),
+                None => printed::print_last_listed(out, file),
             })
         }),
         Err(Misuse) => {

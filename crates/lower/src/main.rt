@@ -4,5 +4,5 @@
 use report::STDOUT;
 
 fn main() {
-    report::on_input(|file| report::print(STDOUT, |out| printed::lowered(out, file)));
+    report::on_input(|file| report::print(STDOUT, |out| printed::print_lowered(out, file)));
 }

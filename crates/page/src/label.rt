@@ -1,4 +1,8 @@
 // Whose line it is.
+ghost use Rattle.std.specs.Prelude.{◌≡◌};
+ghost use Rattle.page.specs.Narrow.{Numbered};
+
+use crate::narrow;
 use parts::Kind;
 use std::fmt;
 
@@ -14,6 +18,20 @@ pub enum Label {
 }
 
 impl Label {
+    // What a sheet is told.
+    pub(crate) fn narrow(self) -> Label
+        ensures narrow { Numbered result }
+        ensures same { Numbered self → result ≡ self }
+    {
+        match self {
+            Label::Own(..) => self,
+            Label::Busy(i) => Label::Busy(usize::from(narrow(i))),
+            Label::Of(i, k, n) => Label::Of(usize::from(narrow(i)), k, n),
+            Label::Unnamed(i) => Label::Unnamed(usize::from(narrow(i))),
+            Label::Unused(i) => Label::Unused(usize::from(narrow(i))),
+        }
+    }
+
     // In words, a kind in at least so many columns and a number in so many.
     pub(crate) fn say<W: fmt::Write>(self, out: &mut W, kind: usize, number: usize) -> fmt::Result {
         match self {

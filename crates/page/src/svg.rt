@@ -2,7 +2,7 @@
 ghost use Rattle.std.specs.Prelude.{◌≤◌};
 
 use crate::glyph::{Glyph, Mark};
-use crate::{Label, Row, Sheet, View};
+use crate::{Label, Row, Surface, View};
 use std::fmt;
 
 // No page goes on behind this cycle.
@@ -58,8 +58,8 @@ fn tick<W: fmt::Write>(out: &mut W, t: usize, bottom: usize) -> fmt::Result {
 #[derive(Clone, Copy)]
 pub struct Svg;
 
-impl Sheet for Svg {
-    fn open<W: fmt::Write>(&self, out: &mut W, view: View, lines: usize) -> fmt::Result {
+impl Surface for Svg {
+    fn draw_open<W: fmt::Write>(&self, out: &mut W, view: View, lines: usize) -> fmt::Result {
         let bottom = top_of(lines);
         let width = (left_of(view.cycles) + 10).max(420);
         let height = bottom + 10;
@@ -76,7 +76,7 @@ impl Sheet for Svg {
         Ok(())
     }
 
-    fn row<W: fmt::Write>(
+    fn draw_row<W: fmt::Write>(
         &self,
         out: &mut W,
         view: View,
@@ -84,7 +84,7 @@ impl Sheet for Svg {
         label: Label,
         row: Row<'_>,
     ) -> fmt::Result {
-        self.note(out, above, label)?;
+        self.draw_note(out, above, label)?;
         for t in 0..view.cycles.min(MOST_CYCLES) {
             let glyph = row.glyph(t);
             if glyph != Glyph::Free {
@@ -94,12 +94,12 @@ impl Sheet for Svg {
         Ok(())
     }
 
-    fn note<W: fmt::Write>(&self, out: &mut W, above: usize, label: Label) -> fmt::Result {
+    fn draw_note<W: fmt::Write>(&self, out: &mut W, above: usize, label: Label) -> fmt::Result {
         let y = top_of(above) + 12;
         writeln!(out, "<text x=\"6\" y=\"{y}\">{label}</text>")
     }
 
-    fn close<W: fmt::Write>(&self, out: &mut W) -> fmt::Result {
+    fn draw_close<W: fmt::Write>(&self, out: &mut W) -> fmt::Result {
         out.write_str("</svg>\n")
     }
 }

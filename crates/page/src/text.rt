@@ -1,6 +1,6 @@
 // A page in text: three letters for each of at most 32 cycles.
 use crate::glyph::{Glyph, Mark};
-use crate::{Label, Row, Sheet, View};
+use crate::{Label, Row, Surface, View};
 use std::{array, fmt};
 
 // The letters of these cycles, without a blank at their end.
@@ -42,8 +42,8 @@ fn margin(label: Label) -> &'static str {
 #[derive(Clone, Copy)]
 pub struct Text;
 
-impl Sheet for Text {
-    fn open<W: fmt::Write>(&self, out: &mut W, view: View, _lines: usize) -> fmt::Result {
+impl Surface for Text {
+    fn draw_open<W: fmt::Write>(&self, out: &mut W, view: View, _lines: usize) -> fmt::Result {
         let cycles = view.cycles;
         write!(out, "#\n#  {view}")?;
         if cycles > 32 {
@@ -54,7 +54,7 @@ impl Sheet for Text {
         columns(out, seen(&numbers, cycles))
     }
 
-    fn row<W: fmt::Write>(
+    fn draw_row<W: fmt::Write>(
         &self,
         out: &mut W,
         view: View,
@@ -71,12 +71,12 @@ impl Sheet for Text {
         columns(out, seen(&glyphs, view.cycles))
     }
 
-    fn note<W: fmt::Write>(&self, out: &mut W, _above: usize, label: Label) -> fmt::Result {
+    fn draw_note<W: fmt::Write>(&self, out: &mut W, _above: usize, label: Label) -> fmt::Result {
         name(out, label)?;
         out.write_str("\n")
     }
 
-    fn close<W: fmt::Write>(&self, _out: &mut W) -> fmt::Result {
+    fn draw_close<W: fmt::Write>(&self, _out: &mut W) -> fmt::Result {
         Ok(())
     }
 }

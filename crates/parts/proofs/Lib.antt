@@ -1,3 +1,4 @@
 pub mod Places
 pub mod Before
 pub mod Behind
+pub mod Small

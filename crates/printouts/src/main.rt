@@ -60,8 +60,8 @@ fn printout(rt: &HostRuntime, name: &str, what: Printed) {
     report::print(STDOUT, |out| {
         let _ = writeln!(out, "{name}");
         match what {
-            Printed::Rows => printed::lowered(out, file),
-            Printed::Starts => printed::last_listed(out, file),
+            Printed::Rows => printed::print_lowered(out, file),
+            Printed::Starts => printed::print_last_listed(out, file),
             Printed::Count => count(out, file),
         }
     });

@@ -77,8 +77,10 @@ fn interval<W: fmt::Write>(out: &mut W, s: Standing<'_>) -> fmt::Result {
     )
 }
 
+// The sentence for the refusal of a file of so many bytes, whose record list is given where its blocks pass.
 // Where the record stands is looked for by the rules alone that look at other records: it takes a walk over all before it.
-fn sentence<W: fmt::Write>(out: &mut W, bytes: usize, list: List<'_>, r: Refusal) -> fmt::Result {
+pub fn reason<W: fmt::Write>(out: &mut W, bytes: usize, list: &[u8], r: Refusal) -> fmt::Result {
+    let list = List::of(list);
     let p = r.position;
     match r.fault {
         Fault::Length => write!(
@@ -128,8 +130,7 @@ fn sentence<W: fmt::Write>(out: &mut W, bytes: usize, list: List<'_>, r: Refusal
     out.write_str("\n")
 }
 
-// The sentence for the refusal of a file of so many bytes, whose record list is given where its blocks pass.
-pub fn reason(out: &mut Output, bytes: usize, list: &[u8], r: Refusal) {
-    // An output takes every text, so there is nothing to answer for.
-    let _ = sentence(out, bytes, List::of(list), r);
+// The same on an output, which takes every text.
+pub fn print_reason(out: &mut Output, bytes: usize, list: &[u8], r: Refusal) {
+    let _ = reason(out, bytes, list, r);
 }

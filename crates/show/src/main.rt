@@ -44,12 +44,12 @@ fn what_is_asked(rt: &impl Env) -> Result<Asked, Misuse> {
 }
 
 fn text(out: &mut Output, list: &[u8]) {
-    shown::list(out, list);
-    picture::components(out, list);
+    shown::print_list(out, list);
+    picture::print_components(out, list);
 }
 
 fn svg(out: &mut Output, list: &[u8], c: usize) {
-    if picture::svg(out, list, c) {
+    if picture::print_svg(out, list, c) {
         return;
     }
     let absent = Refusal::at(Fault::Absent, c);
